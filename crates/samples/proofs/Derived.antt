@@ -1,0 +1,9 @@
+-- Each sample, computed from the definitions. Assumes nothing.
+use mathlib.Core.Path.{refl}
+use Rattle.figures.specs.Gs1.{weightedSum}
+use Rattle.calendar.specs.Dates.{dateOf, monthStart, dayNumber, twelveMonthsOn, lastValidDay}
+use Rattle.samples.specs.Samples.{AllHold, samples}
+
+pub derived : AllHold samples
+unfolding weightedSum dateOf monthStart dayNumber twelveMonthsOn lastValidDay
+derived = (refl, (refl, (refl, (refl, (refl, (refl, (refl, tt)))))))
