@@ -6,7 +6,7 @@ ghost use Rattle.samples.specs.Samples.{AllHold, samples};
 fn count() -> usize
     ensures all { λ r. ⌜ r ≡ length samples ⌝ }
 {
-    7
+    12
 }
 
 // How many samples there are; the contract says that every one holds.

@@ -1,0 +1,5 @@
+pub mod Changes
+pub mod Faults
+pub mod Keys
+pub mod Ledger
+pub mod Rows

@@ -1,0 +1,4 @@
+pub mod HashTables
+pub mod ProbeTurns
+pub mod Probes
+pub mod SameBook

@@ -1,0 +1,2 @@
+pub mod Hashed
+pub mod Probing

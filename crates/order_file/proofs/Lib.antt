@@ -1,0 +1,4 @@
+pub mod Lawful
+pub mod Numbers
+pub mod Printable
+pub mod Reading

@@ -1,0 +1,12 @@
+pub mod Seek
+pub mod Stops
+pub mod Moves
+pub mod Rewrites
+pub mod Slots
+pub mod Cutting
+pub mod Joining
+pub mod Firsts
+pub mod Sums
+pub mod Counting
+pub mod Calls
+pub mod Samples

@@ -1,0 +1,13 @@
+pub mod Invariant
+pub mod Entries
+pub mod MapsKept
+pub mod SoundKept
+pub mod RowsKept
+pub mod MemberTotals
+pub mod EnergiesKept
+pub mod Tallies
+pub mod TotalsKept
+pub mod TotalsFreed
+pub mod TotalsIssued
+pub mod Checked
+pub mod Theorem

@@ -1,0 +1,4 @@
+pub mod Kinds
+pub mod Reckoned
+pub mod Allowed
+pub mod Agreement

@@ -1,0 +1,4 @@
+pub mod Offering
+pub mod Presence
+pub mod Verdicts
+pub mod Walks

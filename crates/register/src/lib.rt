@@ -1,0 +1,31 @@
+// The register of guarantees of origin: its tables, its day, and the nine calls on them.
+mod accounts_and_devices;
+mod calls;
+mod cancellations;
+mod checks;
+mod day;
+mod faults;
+mod holdings;
+mod numbers;
+mod offers;
+mod rows;
+mod tables;
+
+pub use calls::Call;
+pub use day::ClosedDay;
+pub use day::DayFigures;
+pub use day::OpenDay;
+pub use faults::Fault;
+pub use faults::FaultFromBook;
+pub use faults::FaultFromMap;
+pub use faults::FaultFromOperand;
+pub use rows::Cancellation;
+pub use rows::Offer;
+pub use rows::OfferState;
+pub use rows::Origin;
+pub use rows::OriginPayload;
+pub use rows::Period;
+pub use rows::PeriodPayload;
+pub use rows::Standing;
+pub use rows::StandingPayload;
+pub use tables::Tables;
