@@ -74,7 +74,11 @@ fn totals<K: Key, B: Book<K>>(book: &mut B, name: BookName, keys: [K; 5]) -> Res
     check_eq(book.totals(d), Some((10, 0)))
 }
 
-pub fn run<K: Key, B: Book<K>>(book: &mut B, name: BookName, keys: [K; 5]) -> Result<(), Fail> {
+pub(crate) fn run<K: Key, B: Book<K>>(
+    book: &mut B,
+    name: BookName,
+    keys: [K; 5],
+) -> Result<(), Fail> {
     joins(book, name, keys)?;
     numbers(book, keys)?;
     totals(book, name, keys)

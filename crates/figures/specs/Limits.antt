@@ -35,3 +35,7 @@ firstYear = 2000
 
 abbrev pub lastYear : ℕ
 lastYear = 2049
+
+-- the most bytes of an order file that the program takes
+abbrev pub mostFileBytes : ℕ
+mostFileBytes = 65_536

@@ -30,6 +30,7 @@ pub use limits::LAST_YEAR;
 pub use limits::MAX_ACCOUNT_NUMBER;
 pub use limits::MAX_CERTIFICATE_NUMBER;
 pub use limits::MAX_ENERGY;
+pub use limits::MAX_FILE_BYTES;
 pub use limits::MAX_MEMBERS;
 pub use limits::MAX_TOTAL;
 pub use names::BookName;

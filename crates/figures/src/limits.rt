@@ -25,3 +25,6 @@ pub const LAST_DAY: u32 = 18_262;
 pub const FIRST_YEAR: u16 = 2000;
 
 pub const LAST_YEAR: u16 = 2049;
+
+// The program takes an order file of at most so many bytes.
+pub const MAX_FILE_BYTES: usize = 65_536;

@@ -12,7 +12,7 @@ pub struct Walk {
     pub end: ReadFault,
 }
 
-pub fn walk_through(file: &[u8]) -> Walk {
+pub(crate) fn walk_through(file: &[u8]) -> Walk {
     let mut rest = file;
     let mut read = 0usize;
     let mut lawful = 0usize;
@@ -32,7 +32,7 @@ pub fn walk_through(file: &[u8]) -> Walk {
 }
 
 // The distance at which an order is refused; 0 if it is lawful.
-pub fn refused_distance(order: Order) -> usize {
+pub(crate) fn refused_distance(order: Order) -> usize {
     match order.check() {
         Ok(()) => 0,
         Err(fault) => fault.distance,
@@ -40,6 +40,6 @@ pub fn refused_distance(order: Order) -> usize {
 }
 
 // The range's own limits keep this from overflowing.
-pub fn count(range: NumberRange) -> u64 {
+pub(crate) fn count(range: NumberRange) -> u64 {
     range.last.0 - range.first.0 + 1
 }

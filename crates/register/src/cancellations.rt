@@ -104,5 +104,7 @@ fn use_up(tables: &mut Tables<'_>, day: DayFigures, serial: u32, terms: Cancella
     };
     let first = terms.numbers.first.0;
     let last = terms.numbers.last.0;
-    let _ = tables.standings.change(first, last, Standing::Cancelled(serial));
+    let _ = tables
+        .standings
+        .change(first, last, Standing::Cancelled(serial));
 }

@@ -109,5 +109,7 @@ fn set_aside(tables: &mut Tables<'_>, row: u32, number: u32, terms: OfferTerms)
     };
     let first = terms.numbers.first.0;
     let last = terms.numbers.last.0;
-    let _ = tables.standings.change(first, last, Standing::Offered(number));
+    let _ = tables
+        .standings
+        .change(first, last, Standing::Offered(number));
 }

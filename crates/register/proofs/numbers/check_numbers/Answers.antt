@@ -26,7 +26,7 @@ returns-in-Break-check-change c =
     let good = good-numbers f l (c .args .numbers .rising) (c .args .numbers .within) in
     record {
       judged = judged-err (p .1 ∙ ap Result.Err (p .2))
-        (pass (c .in-Continue-check-held .ensures tt .verdict) (pass (c .in-Continue-check-row .ensures tt .verdict)
+          (pass (c .in-Continue-check-held .ensures tt .verdict) (pass (c .in-Continue-check-row .ensures tt .verdict)
           (stop (change-full (slotsOf (c .args .standings .now)) f l m (c .check-change .result) (c .check-change .ensures .reply) good covered (c .in-Break-check-change .field-0 .0) (c .in-Break-check-change .was tt)))));
     }
 
@@ -39,7 +39,7 @@ returns c =
     let good = good-numbers f l (c .args .numbers .rising) (c .args .numbers .within) in
     record {
       judged = judged-ok tt
-        (pass (c .in-Continue-check-held .ensures tt .verdict) (pass (c .in-Continue-check-row .ensures tt .verdict)
+          (pass (c .in-Continue-check-held .ensures tt .verdict) (pass (c .in-Continue-check-row .ensures tt .verdict)
           (pass (change-fits (slotsOf (c .args .standings .now)) f l m (c .check-change .result) (c .check-change .ensures .reply) good covered (c .in-Continue-check-change .was tt)) end)))
-        (record { row-free = c .in-Continue-check-row .ensures tt .free; few = c .in-Continue-check-row .ensures tt .few; change-fits = sym (c .in-Continue-check-change .ensures tt .reply) });
+          (record { row-free = c .in-Continue-check-row .ensures tt .free; few = c .in-Continue-check-row .ensures tt .few; change-fits = sym (c .in-Continue-check-change .ensures tt .reply) });
     }

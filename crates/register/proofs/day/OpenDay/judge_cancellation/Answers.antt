@@ -16,7 +16,7 @@ returns-in-Break-check-numbers g c =
     let f = c .in-Break-check-numbers .field-0 .0 in
     record {
       judged = judged-err (p .1 ∙ ap Result.Err (p .2))
-        (subst (λ x. None ≡ badAt (badCancel x) → Reaches (Some f) (cancellationChecks x s)) (c .in-Continue-terms .ensures tt .checked)
+          (subst (λ x. None ≡ badAt (badCancel x) → Reaches (Some f) (cancellationChecks x s)) (c .in-Continue-terms .ensures tt .checked)
           (λ lawful. pass lawful (pass (ok-fault (c .in-Continue-check-account .was tt) (c .check-account .ensures .verdict)) (known-rest (c .in-Break-check-numbers .ensures tt .judged .verdict))))
           (ok-operand (c .in-Continue-terms .was tt) (c .check .ensures .refused-at)));
     }
