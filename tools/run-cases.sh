@@ -34,9 +34,8 @@ days() { for _ in $(seq "$1"); do printf 'D\0\0\0\1'; done; }
 accept() { printf 'YAA\0\0\0\2\0\0\0\1'; }
 
 # the sample is the same in both places, and is what its text says
-for copy in crates/goregister/stdin <(python3 tools/orders.py < examples/sample.txt); do
-    cmp "$copy" examples/sample.orders || failed=1
-done
+cmp crates/goregister/stdin examples/sample.orders || failed=1
+python3 tools/orders.py < examples/sample.txt | cmp - examples/sample.orders || failed=1
 
 expect 'the sample' 'LAWFUL 000010' < examples/sample.orders
 expect 'an empty file' 'LAWFUL 000000' < /dev/null

@@ -1,4 +1,11 @@
+pub mod Answering
+pub mod Judging
+pub mod Lowering
+pub mod OfferRows
 pub mod Offering
+pub mod Overdue
 pub mod Presence
+pub mod Remaking
+pub mod Sizes
 pub mod Verdicts
 pub mod Walks

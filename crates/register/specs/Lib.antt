@@ -6,3 +6,4 @@ pub mod Checks
 pub mod Bookings
 pub mod Runs
 pub mod Settled
+pub mod Answers

@@ -1,15 +1,20 @@
 // The register of guarantees of origin: its tables, its day, and the nine calls on them.
 mod accounts_and_devices;
+mod answers;
 mod calls;
 mod cancellations;
 mod checks;
+mod counts;
 mod day;
+mod day_opening;
 mod faults;
 mod holdings;
 mod numbers;
 mod offers;
+mod remakes;
 mod rows;
 mod tables;
+mod terms;
 
 pub use calls::Call;
 pub use day::ClosedDay;
