@@ -1,5 +1,7 @@
 // The books of the register: what a book means, what every way of keeping one promises, its keys,
 // and postings over any book.
+#![tactic(auto)]
+
 mod book;
 mod changes;
 mod faults;

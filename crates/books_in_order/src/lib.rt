@@ -1,4 +1,6 @@
 // Books whose rows lie in key order: a key is found by halving, and a new row moves those behind it.
+#![tactic(auto)]
+
 mod accounts_in_order;
 mod devices_in_order;
 mod in_order;

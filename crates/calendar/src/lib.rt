@@ -1,4 +1,6 @@
 // The calendar: dates of day numbers, and how long a certificate is valid. Day 0 is 1 January 2000.
+#![tactic(auto)]
+
 mod dates;
 mod month_starts;
 mod months;

@@ -1,5 +1,7 @@
 // The figures of the register: energy, certificate counts and numbers, accounts, device numbers,
 // the names of the books and tables, and every limit.
+#![tactic(auto)]
+
 mod accounts;
 mod devices;
 mod energy;

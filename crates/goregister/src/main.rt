@@ -1,4 +1,6 @@
 // Reads an order file from standard input and prints what an inspection finds.
+#![tactic(auto)]
+
 use figures::MAX_FILE_BYTES;
 use inspection::inspect_file;
 use std::io::{Read, Write};

@@ -1,4 +1,6 @@
 // Runs of the ground layers: device numbers, the calendar, the order reader.
+#![tactic(auto)]
+
 #[cfg(test)]
 mod calendar_walk;
 #[cfg(test)]

@@ -1,4 +1,6 @@
 // Goes through an order file: which orders can be read, and which of them have lawful operands.
+#![tactic(auto)]
+
 mod files;
 mod findings;
 mod step;

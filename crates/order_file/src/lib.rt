@@ -1,4 +1,6 @@
 // The order file: the kinds of order, the reader, and the check of an order's operands.
+#![tactic(auto)]
+
 mod beneficiary;
 mod checked;
 mod checks;

@@ -1,4 +1,6 @@
 // The register of guarantees of origin: its tables, its day, and the nine calls on them.
+#![tactic(auto)]
+
 mod accounts_and_devices;
 mod answers;
 mod calls;

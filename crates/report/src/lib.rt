@@ -1,4 +1,6 @@
 // The lines that the program prints, as bytes of fixed width.
+#![tactic(auto)]
+
 mod digits;
 mod lines;
 

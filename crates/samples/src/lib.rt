@@ -1,4 +1,6 @@
 // The worked samples of the rules, derived from the definitions that the contracts cite.
+#![tactic(auto)]
+
 ghost use Rattle.std.specs.Prelude.{◌≡◌, length};
 ghost use Rattle.samples.specs.Samples.{AllHold, samples};
 

@@ -4,13 +4,13 @@ use Rattle.books.specs.Ledger.{matches}
 use Rattle.books.proofs.Posted.{posted_absent, absent_from_none, present_from_some, posted_written}
 use Rattle.books.proofs.postings.post.Goals as goal
 
-pub returns-in-default : goal.returns-in-default
-returns-in-default g c =
+pub returns-in_default : goal.returns-in_default
+returns-in_default g c =
     let is = matches g.K.Key.order (g.K.Key.plain c.args.posting.key) in
     let l = g.B.Book.meaning c.args.book.now in
     record {
-      after = posted_absent is _ _ l (absent_from_none is c.args.posting.first c.args.posting.second l c.in-default.ensures.totals);
-      absent-leaves-all = λ _. refl;
+      after = posted_absent is _ _ l (absent_from_none is c.args.posting.first c.args.posting.second l c.in_default.ensures.totals);
+      absent_leaves_all = λ _. refl;
     }
 
 pub returns : goal.returns
@@ -22,6 +22,6 @@ returns g c =
     let t = c.in-Some.totals in
     let read = c.in-Some.ensures.totals in
     record {
-      after = posted_written is one other l _ t c.moved-first.result read c.moved-first.ensures.moved c.write-totals.ensures.after;
-      absent-leaves-all = λ h. absurd (both_ways _ h (present_from_some is one other l t read));
+      after = posted_written is one other l _ t c.moved-first.result read c.moved-first.ensures.moved c.write_totals.ensures.after;
+      absent_leaves_all = λ h. absurd (both_ways _ h (present_from_some is one other l t read));
     }

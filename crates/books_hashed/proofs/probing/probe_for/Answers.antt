@@ -15,14 +15,14 @@ loop-step-init g c =
 
 pub loop-step-preserved : goal.loop-step-preserved
 loop-step-preserved g c = (
-  c.next-slot-at.ensures.stays_within,
-  goes_on (matches g.K.Key.order c.args.key) c.args.slots.now c.loop-step.at c.loop-step.-step c.loop-step.invariant.0 c.loop-step-test.true c.index-slots-at.result c.index-slots-at.is _ c.loop-step.invariant.1 c.next-slot-at.result c.in-default.ensures.glanced c.next-slot-at.ensures.next,
+  c.next_slot-at.ensures.stays_within,
+  goes_on (matches g.K.Key.order c.args.key) c.args.slots.now c.loop-step.at c.loop-step._step c.loop-step.invariant.0 c.loop-step-test.true c.index-slots-at.result c.index-slots-at.is _ c.loop-step.invariant.1 c.next_slot-at.result c.in_default.ensures.glanced c.next_slot-at.ensures.next,
 )
 
 pub returns-in-Some : goal.returns-in-Some
 returns-in-Some g c = record {
-  ends = ends_here (matches g.K.Key.order c.args.key) c.args.slots.now c.loop-step.at c.loop-step.-step c.loop-step.invariant.0 c.loop-step-test.true c.index-slots-at.result c.index-slots-at.is _ c.loop-step.invariant.1 c.in-Some.end c.in-Some.ensures.glanced;
+  ends = ends_here (matches g.K.Key.order c.args.key) c.args.slots.now c.loop-step.at c.loop-step._step c.loop-step.invariant.0 c.loop-step-test.true c.index-slots-at.result c.index-slots-at.is _ c.loop-step.invariant.1 c.in-Some.end c.in-Some.ensures.glanced;
 }
 
 pub returns : goal.returns
-returns g c = record { ends = done_full (matches g.K.Key.order c.args.key) c.args.slots.now c.loop-step.at c.loop-step.-step _ c.loop-step-test.false c.loop-step.invariant.1 }
+returns g c = record { ends = done_full (matches g.K.Key.order c.args.key) c.args.slots.now c.loop-step.at c.loop-step._step _ c.loop-step-test.false c.loop-step.invariant.1 }

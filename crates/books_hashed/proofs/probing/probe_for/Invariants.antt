@@ -7,4 +7,4 @@ use Rattle.books_hashed.proofs.probing.probe_for.Given as goal
 abbrev pub invariant-loop-step : goal.invariant-loop-step
 invariant-loop-step g l =
     (l.at < length l.slots)
-    × (probe_from (matches g.K.Key.order l.key) (key_at l.slots) (length l.slots) l.at (length l.slots - l.-step) ≡ probe_for g.K.Key.order g.K.Key.spread l.key l.slots)
+    × (probe_from (matches g.K.Key.order l.key) (key_at l.slots) (length l.slots) l.at (length l.slots - l._step) ≡ probe_for g.K.Key.order g.K.Key.spread l.key l.slots)

@@ -2,4 +2,4 @@ use Rattle.books_in_order.proofs.Moves.{moved_up}
 use Rattle.books_in_order.proofs.key_order.insert.Goals as goal
 
 pub returns : goal.returns
-returns g c = record { inserted = moved_up c.args.rows.now c.args.used c.args.place c.args.row c.requires.roomy c.requires.within c.move-up.new.rows c.move-up.ensures.moved }
+returns g c = record { inserted = moved_up c.args.rows.now c.args.used c.args.place c.args.row c.requires.roomy c.requires.within c.move_up.new.rows c.move_up.ensures.moved }

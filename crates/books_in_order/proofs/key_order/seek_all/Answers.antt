@@ -12,7 +12,7 @@ returns-in-Equal g c = record {
   sought = sought_here g.met.K.Key.total c.args.key c.args.rows.now c.requires.rising _ c.split-place.ensures.splits c.index-rows-place.result c.if-place-rows.false c.index-rows-place.is (sym c.in-Equal.ensures.answer);
 }
 
-pub returns-in-default : goal.returns-in-default
-returns-in-default g c = record {
-  sought = sought_not g.met.K.Key.total c.args.key c.args.rows.now c.requires.rising _ c.split-place.ensures.splits c.index-rows-place.result c.if-place-rows.false c.index-rows-place.is (λ e. c.in-default.not-Equal (c.compare.ensures.answer ∙ e));
+pub returns-in_default : goal.returns-in_default
+returns-in_default g c = record {
+  sought = sought_not g.met.K.Key.total c.args.key c.args.rows.now c.requires.rising _ c.split-place.ensures.splits c.index-rows-place.result c.if-place-rows.false c.index-rows-place.is (λ e. c.in_default.not-Equal (c.compare.ensures.answer ∙ e));
 }

@@ -8,4 +8,4 @@ loop-low-preserved-in-Less g c =
 
 pub loop-low-preserved : goal.loop-low-preserved
 loop-low-preserved g c =
-    lower_half g.met.K.Key.total c.args.key c.args.rows.now c.requires.rising c.loop-low.low c.loop-low.high _ c.index-rows-mid.result c.index-rows-mid.is c.loop-low.invariant (omega arith) (omega arith) (λ e. c.in-default.not-Less (c.compare.ensures.answer ∙ e))
+    lower_half g.met.K.Key.total c.args.key c.args.rows.now c.requires.rising c.loop-low.low c.loop-low.high _ c.index-rows-mid.result c.index-rows-mid.is c.loop-low.invariant (omega arith) (omega arith) (λ e. c.in_default.not-Less (c.compare.ensures.answer ∙ e))

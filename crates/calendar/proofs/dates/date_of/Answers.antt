@@ -5,5 +5,5 @@ use Rattle.calendar.proofs.dates.date_of.Goals as goal
 
 pub returns : goal.returns
 returns c =
-    let at = c.in-month-month.ensures in
-    record { date = sym (date_in_month c.in-month-month.result.0 c.in-month-month.result.1 at.inside) ∙ ap date_of (at.day ∙ c.min.ensures) }
+    let at = c.in_month-month.ensures in
+    record { date = sym (date_in_month c.in_month-month.result.0 c.in_month-month.result.1 at.inside) ∙ ap date_of (at.day ∙ c.min.ensures) }

@@ -4,7 +4,7 @@ use Rattle.calendar.proofs.months.in_month.Goals as goal
 
 pub returns : goal.returns
 returns c =
-    let m = c.month-of-month.result in
+    let m = c.month_of-month.result in
     record {
       day = omega arith;
       inside = omega (arith, month_start_suc m);

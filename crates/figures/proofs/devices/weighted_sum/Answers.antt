@@ -7,7 +7,7 @@ pub loop-pair-init : goal.loop-pair-init
 loop-pair-init c = (omega arith, omega (arith, all_pairs c.args.number))
 
 pub loop-pair-preserved : goal.loop-pair-preserved
-loop-pair-preserved c = (omega arith, omega (arith, pairs_less c.loop-pair.-pair c.loop-pair.rest c.loop-pair-test.true))
+loop-pair-preserved c = (omega arith, omega (arith, pairs_less c.loop-pair._pair c.loop-pair.rest c.loop-pair-test.true))
 
 pub returns : goal.returns
-returns c = omega (arith, no_pair c.loop-pair.-pair c.loop-pair.rest c.loop-pair-test.false)
+returns c = omega (arith, no_pair c.loop-pair._pair c.loop-pair.rest c.loop-pair-test.false)

@@ -5,4 +5,4 @@ use Rattle.figures.proofs.Weights.{double}
 use Rattle.figures.proofs.devices.weighted_sum.Given as goal
 
 abbrev pub invariant-loop-pair : goal.invariant-loop-pair
-invariant-loop-pair l = (l.sum ≤ 36 * l.-pair) × (l.sum + weighted (written (double (9 - l.-pair)) l.rest) ≡ weighted_sum l.number)
+invariant-loop-pair l = (l.sum ≤ 36 * l._pair) × (l.sum + weighted (written (double (9 - l._pair)) l.rest) ≡ weighted_sum l.number)

@@ -4,21 +4,21 @@ use Rattle.inspection.specs.Files.{findings, printed, inspection}
 use Rattle.inspection.proofs.Limit.{within_limit, above_limit}
 use Rattle.inspection.proofs.files.inspect_file.Goals as goal
 
-pub returns-then-file-le-MAX-FILE-BYTES : goal.returns-then-file-le-MAX-FILE-BYTES
-returns-then-file-le-MAX-FILE-BYTES c = record {
+pub returns-then-file-le-MAX_FILE_BYTES : goal.returns-then-file-le-MAX_FILE_BYTES
+returns-then-file-le-MAX_FILE_BYTES c = record {
   printed =
-      IfOk-weaker c.inspect-orders.result
+      IfOk-weaker c.inspect_orders.result
       (λ out. vec_items out ≡ printed (findings c.args.file.now))
       (λ out. vec_items out ≡ inspection c.args.file.now)
-      (λ out is. is ∙ within_limit _ c.if-file-le-MAX-FILE-BYTES.true)
-      c.inspect-orders.ensures.printed;
+      (λ out is. is ∙ within_limit _ c.if-file-le-MAX_FILE_BYTES.true)
+      c.inspect_orders.ensures.printed;
 }
 
 pub returns : goal.returns
 returns c = record {
   printed =
-      c.in-ok-extend-from-slice.ensures.items
-      ∙ ap (λ before. before ++ c.too-long-line.result) c.new-out.ensures.items
-      ∙ c.too-long-line.ensures.line
-      ∙ above_limit _ c.if-file-le-MAX-FILE-BYTES.false;
+      c.in_ok-extend_from_slice.ensures.items
+      ∙ ap (λ before. before ++ c.too_long_line.result) c.new-out.ensures.items
+      ∙ c.too_long_line.ensures.line
+      ∙ above_limit _ c.if-file-le-MAX_FILE_BYTES.false;
 }

@@ -4,8 +4,8 @@ use Rattle.inspection.proofs.step.inspect_order.Goals as goal
 
 pub returns-then-place-file : goal.returns-then-place-file
 returns-then-place-file c = record {
-  finding = c.inspect-front.ensures.finding ∙ found_within _ _ c.if-place-file.true;
-  onward = λ _. c.inspect-front.ensures.onward;
+  finding = c.inspect_front.ensures.finding ∙ found_within _ _ c.if-place-file.true;
+  onward = λ _. c.inspect_front.ensures.onward;
 }
 
 pub returns-else-place-file : goal.returns-else-place-file

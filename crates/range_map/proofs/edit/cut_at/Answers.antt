@@ -21,6 +21,6 @@ pub returns : goal.returns
 returns g c =
     let one = slot_cut_counts c.args.slots.now c.args.used c.args.i c.args.n c.requires.fits c.index-slots-i.result c.if-i-used.false c.index-slots-i.is c.if-e-n.false in
     record {
-      after = slot_cut_inside c.args.slots.now c.args.used c.args.i c.args.n c.requires.fits c.index-slots-i.result c.if-i-used.false c.index-slots-i.is c.if-e-n.false _ _ c.lower-part.ensures c.upper-part.ensures _ c.insert.ensures.after;
+      after = slot_cut_inside c.args.slots.now c.args.used c.args.i c.args.n c.requires.fits c.index-slots-i.result c.if-i-used.false c.index-slots-i.is c.if-e-n.false _ _ c.lower_part.ensures c.upper_part.ensures _ c.insert.ensures.after;
       count = omega (arith, one);
     }

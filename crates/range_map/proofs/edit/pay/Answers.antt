@@ -4,7 +4,7 @@ use Rattle.range_map.proofs.edit.pay.Goals as goal
 
 pub loop-i-preserved : goal.loop-i-preserved
 loop-i-preserved g c =
-    pay_turn _ _ c.loop-i.part _ _ c.index-part-i.result _ _ c.loop-i-test.true (sym c.loop-i.auto.part) c.index-part-i.is c.pay-entry.ensures c.next-to-pay-i.ensures
+    pay_turn _ _ c.loop-i.part _ _ c.index-part-i.result _ _ c.loop-i-test.true (sym c.loop-i.auto.part) c.index-part-i.is c.pay_entry.ensures c.next_to_pay-i.ensures
     ∙ c.loop-i.invariant
 
 pub returns : goal.returns

@@ -10,6 +10,6 @@ pub returns : goal.returns
 returns g c =
     let one : cond (ltb c.index-entries-i.result.first c.args.n) 1 0 ≤ 1 = cond_both {A = ℕ} _ 1 0 (λ k. k ≤ 1) (λ _. omega arith) (λ _. omega arith) in
     record {
-      cuts = c.split-of.ensures ∙ sym (splits_some _ c.args.entries.now _ _ c.if-i-entries.false c.index-entries-i.is);
-      few = omega (arith, c.split-of.ensures, one);
+      cuts = c.split_of.ensures ∙ sym (splits_some _ c.args.entries.now _ _ c.if-i-entries.false c.index-entries-i.is);
+      few = omega (arith, c.split_of.ensures, one);
     }

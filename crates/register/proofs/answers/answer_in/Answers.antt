@@ -6,6 +6,6 @@ pub returns : goal.returns
 returns c =
     record {
       answered = λ f here.
-          ap (set c.args.offers.now (c.args.number - 1)) c.answer-offer.ensures.answered
+          ap (set c.args.offers.now (c.args.number - 1)) c.answer_offer.ensures.answered
           ∙ row_answered c.args.call c.args.offers.now (c.args.number - 1) _ f here;
     }

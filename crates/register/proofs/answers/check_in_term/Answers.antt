@@ -9,11 +9,11 @@ loop-entry-init c = refl
 
 pub returns-in-Some : goal.returns-in-Some
 returns-in-Some c =
-    record { verdict = ap past_term (sym (overdue_here c.args.offer c.args.date (in_use c.args.origins.now) c.args.entries.now c.loop-entry.entry-index _ c.in-Some.last-valid c.loop-entry-test.true (sym c.in-Some.ensures.overdue)) ∙ c.loop-entry.invariant) }
+    record { verdict = ap past_term (sym (overdue_here c.args.offer c.args.date (in_use c.args.origins.now) c.args.entries.now c.loop-entry.entry-index _ c.in-Some.last_valid c.loop-entry-test.true (sym c.in-Some.ensures.overdue)) ∙ c.loop-entry.invariant) }
 
 pub loop-entry-preserved : goal.loop-entry-preserved
 loop-entry-preserved c =
-    sym (overdue_on c.args.offer c.args.date (in_use c.args.origins.now) c.args.entries.now c.loop-entry.entry-index _ c.loop-entry-test.true (sym c.in-default.ensures.overdue))
+    sym (overdue_on c.args.offer c.args.date (in_use c.args.origins.now) c.args.entries.now c.loop-entry.entry-index _ c.loop-entry-test.true (sym c.in_default.ensures.overdue))
     ∙ c.loop-entry.invariant
 
 pub returns : goal.returns

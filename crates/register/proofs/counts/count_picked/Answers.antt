@@ -9,7 +9,7 @@ loop-entry-init g c = adding_none (g.T.Pick.picks c.args.picked.now) c.args.entr
 pub loop-entry-preserved : goal.loop-entry-preserved
 loop-entry-preserved g c =
     elim c.if-pick.branch [
-      | then-pick w ↦ adding_on (g.T.Pick.picks c.args.picked.now) c.args.entries.now c.loop-entry.total c.loop-entry.entry-index _ c.loop-entry.invariant c.loop-entry-test.true w.size-of.result c.if-pick.total (sym c.pick.ensures.picked ∙ w.if-pick.true) w.size-of.ensures.size (w.total-is ∙ w.min-total.ensures)
+      | then-pick w ↦ adding_on (g.T.Pick.picks c.args.picked.now) c.args.entries.now c.loop-entry.total c.loop-entry.entry-index _ c.loop-entry.invariant c.loop-entry-test.true w.size_of.result c.if-pick.total (sym c.pick.ensures.picked ∙ w.if-pick.true) w.size_of.ensures.size (w.total-is ∙ w.min-total.ensures)
       | else-pick w ↦ adding_over (g.T.Pick.picks c.args.picked.now) c.args.entries.now c.loop-entry.total c.loop-entry.entry-index _ c.loop-entry.invariant c.loop-entry-test.true c.if-pick.total (sym c.pick.ensures.picked ∙ w.if-pick.false) w.total-is
     ]
 

@@ -9,12 +9,12 @@ use Rattle.register.proofs.holdings.check_held.Goals.{then-number-entry-via-then
 
 pub loop-i-init : goal.loop-i-init
 unfolding unheld
-loop-i-init c = ap (λ k. gap_by (held_by c.args.account) c.args.first c.args.last (drop k (in_use c.args.standings.now))) c.index-of-i.ensures.place
+loop-i-init c = ap (λ k. gap_by (held_by c.args.account) c.args.first c.args.last (drop k (in_use c.args.standings.now))) c.index_of-i.ensures.place
 
-pub returns-in-default : goal.returns-in-default
-returns-in-default c =
+pub returns-in_default : goal.returns-in_default
+returns-in_default c =
     let m = in_use c.args.standings.now in
-    let end = drop_past m c.loop-i.i (sym c.in-default.ensures.by_index) in
+    let end = drop_past m c.loop-i.i (sym c.in_default.ensures.by_index) in
     record { verdict = ap not_held_at (sym (gap_end (held_by c.args.account) c.loop-i.number c.args.last m c.loop-i.i end) ∙ c.loop-i.invariant) }
 
 pub loop-i-preserved-then-entry-number : goal.loop-i-preserved-then-entry-number
@@ -30,7 +30,7 @@ returns-then-number-entry c =
     record {
       verdict = ap not_held_at (sym (elim c.then-number-entry.branch [
         | then-number-entry-via-then-number-entry w ↦ gap_late t c.loop-i.number c.args.last m c.loop-i.i c.in-Some.entry here c.if-entry-number.false w.if-number-entry.true
-        | then-number-entry-via-else-number-entry+then-not-is-held-by w ↦ gap_fails t c.loop-i.number c.args.last m c.loop-i.i c.in-Some.entry here c.if-entry-number.false (sym w.is-held-by.ensures.held ∙ w.if-not-is-held-by.true)
+        | then-number-entry-via-else-number-entry+then-not-is_held_by w ↦ gap_fails t c.loop-i.number c.args.last m c.loop-i.i c.in-Some.entry here c.if-entry-number.false (sym w.is_held_by.ensures.held ∙ w.if-not-is_held_by.true)
       ]) ∙ c.loop-i.invariant);
     }
 
@@ -38,13 +38,13 @@ pub returns-then-entry-last : goal.returns-then-entry-last
 returns-then-entry-last c =
     let m = in_use c.args.standings.now in
     let here = sym c.in-Some.ensures.by_index in
-    record { verdict = ap not_held_at (sym (gap_done (held_by c.args.account) c.loop-i.number c.args.last m c.loop-i.i c.in-Some.entry here c.if-entry-number.false c.if-number-entry.false (sym c.is-held-by.ensures.held ∙ c.if-not-is-held-by.false) c.if-entry-last.true) ∙ c.loop-i.invariant) }
+    record { verdict = ap not_held_at (sym (gap_done (held_by c.args.account) c.loop-i.number c.args.last m c.loop-i.i c.in-Some.entry here c.if-entry-number.false c.if-number-entry.false (sym c.is_held_by.ensures.held ∙ c.if-not-is_held_by.false) c.if-entry-last.true) ∙ c.loop-i.invariant) }
 
 pub loop-i-preserved : goal.loop-i-preserved
 loop-i-preserved c =
     let m = in_use c.args.standings.now in
     let here = sym c.in-Some.ensures.by_index in
-    sym (gap_on (held_by c.args.account) c.loop-i.number c.args.last m c.loop-i.i c.in-Some.entry here c.if-entry-number.false c.if-number-entry.false (sym c.is-held-by.ensures.held ∙ c.if-not-is-held-by.false) c.if-entry-last.false) ∙ c.loop-i.invariant
+    sym (gap_on (held_by c.args.account) c.loop-i.number c.args.last m c.loop-i.i c.in-Some.entry here c.if-entry-number.false c.if-number-entry.false (sym c.is_held_by.ensures.held ∙ c.if-not-is_held_by.false) c.if-entry-last.false) ∙ c.loop-i.invariant
 
 pub returns : goal.returns
 returns c =

@@ -12,7 +12,7 @@ loop-i-preserved g c =
     elim c.match-entry.branch [
       | in-Some w ↦ (
         remade_on (g.T.Remake.becomes c.args.change.now) c.loop-i.i (in_use c.args.standings.now) (in_use c.loop-i.standings) c.loop-i.invariant.0 w.in-Some.entry w.remake.result (in_use c.match-entry.standings) (sym w.in-Some.ensures.by_index) w.remake.ensures.becomes (ap in_use w.standings-is ∙ w.repay.ensures.entries),
-        ap slots_of w.standings-is ∙ w.repay.ensures.slots-stay ∙ c.loop-i.invariant.1,
+        ap slots_of w.standings-is ∙ w.repay.ensures.slots_stay ∙ c.loop-i.invariant.1,
       )
       | in-default w ↦ (
         ap in_use w.standings-is ∙ remade_over (g.T.Remake.becomes c.args.change.now) c.loop-i.i (in_use c.args.standings.now) (in_use c.loop-i.standings) c.loop-i.invariant.0 (sym w.in-default.ensures.by_index),
@@ -24,6 +24,6 @@ pub returns : goal.returns
 returns g c =
     let past : length (in_use c.args.standings.now) ≤ c.loop-i.i = omega (arith, c.count-i-end.ensures.in_use, c.loop-i-test.false) in
     record {
-      every-entry = c.loop-i.invariant.0 ∙ remade_all (g.T.Remake.becomes c.args.change.now) c.loop-i.i (in_use c.args.standings.now) past;
-      slots-stay = c.loop-i.invariant.1;
+      every_entry = c.loop-i.invariant.0 ∙ remade_all (g.T.Remake.becomes c.args.change.now) c.loop-i.i (in_use c.args.standings.now) past;
+      slots_stay = c.loop-i.invariant.1;
     }

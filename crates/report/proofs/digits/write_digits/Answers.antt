@@ -6,7 +6,7 @@ pub loop-place-init : goal.loop-place-init
 loop-place-init c = digits_begin _ _
 
 pub loop-place-preserved : goal.loop-place-preserved
-loop-place-preserved c = digit_next _ _ _ _ c.loop-place-test.true (omega arith) c.digit-byte.ensures.byte ∙ c.loop-place.invariant
+loop-place-preserved c = digit_next _ _ _ _ c.loop-place-test.true (omega arith) c.digit_byte.ensures.byte ∙ c.loop-place.invariant
 
 pub returns : goal.returns
 returns c = record { digits = digits_end _ _ _ c.loop-place-test.false ∙ c.loop-place.invariant }

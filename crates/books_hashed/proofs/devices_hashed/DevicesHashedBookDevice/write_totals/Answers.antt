@@ -3,7 +3,7 @@ use Rattle.books_hashed.proofs.devices_hashed.DevicesHashedBookDevice.write_tota
 
 pub returns : goal.returns
 returns c = record {
-  answer = c.write-totals.ensures.answer;
-  after = c.write-totals.ensures.after;
-  refusal-leaves-all = λ h. same_devices_hashed _ _ (c.write-totals.ensures.refusal-leaves-all h);
+  answer = c.write_totals.ensures.answer;
+  after = c.write_totals.ensures.after;
+  refusal_leaves_all = λ h. same_devices_hashed _ _ (c.write_totals.ensures.refusal_leaves_all h);
 }

@@ -23,20 +23,20 @@ returns-in-Full g c =
     let full = table_no_room g.met.K.Key.total g.K.Key.spread b.slots.now b.used c.requires.sound (omega (arith, full_table g.met.K.Key.total g.K.Key.spread b.slots.now k b.used c.requires.sound.each ends)) in
     record { verdict = refused_full (matches g.K.Key.order k) (hashed_ledger b) c.book-in-Full.ensures.named tt none full; slot = tt }
 
-pub returns-then-is-full : goal.returns-then-is-full
-returns-then-is-full g c =
+pub returns-then-is_full : goal.returns-then-is_full
+returns-then-is_full g c =
     let b = c.args.self.now in
     let k = g.K.Key.plain c.args.key in
     let none = probe_absent g.met.K.Key.total g.K.Key.spread b.slots.now c.requires.sound.settled k b.used (λ i e. free_found (c.in-Free.ensures.ends ∙ e)) in
-    let full = table_no_room g.met.K.Key.total g.K.Key.spread b.slots.now b.used c.requires.sound (leb-true _ _ (sym c.if-is-full.ensures.full)) in
-    record { verdict = refused_full (matches g.K.Key.order k) (hashed_ledger b) c.book-then-is-full.ensures.named tt none full; slot = tt }
+    let full = table_no_room g.met.K.Key.total g.K.Key.spread b.slots.now b.used c.requires.sound (leb-true _ _ (sym c.if-is_full.ensures.full)) in
+    record { verdict = refused_full (matches g.K.Key.order k) (hashed_ledger b) c.book-then-is_full.ensures.named tt none full; slot = tt }
 
 pub returns : goal.returns
 returns g c =
     let b = c.args.self.now in
     let k = g.K.Key.plain c.args.key in
     let none = probe_absent g.met.K.Key.total g.K.Key.spread b.slots.now c.requires.sound.settled k b.used (λ i e. free_found (c.in-Free.ensures.ends ∙ e)) in
-    let less = leb-false _ _ (sym c.if-is-full.ensures.full) in
+    let less = leb-false _ _ (sym c.if-is_full.ensures.full) in
     let room = table_room g.met.K.Key.total g.K.Key.spread b.slots.now b.used c.requires.sound less in
     record {
       verdict = allowed (matches g.K.Key.order k) (hashed_ledger b) g.K.Key.named tt none room;

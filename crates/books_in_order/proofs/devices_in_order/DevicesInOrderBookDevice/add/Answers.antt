@@ -5,5 +5,5 @@ pub returns : goal.returns
 returns c = record {
   answer = c.add.ensures.answer;
   after = c.add.ensures.after;
-  refusal-leaves-all = λ h. same_devices_in_order _ _ (c.add.ensures.refusal-leaves-all h);
+  refusal_leaves_all = λ h. same_devices_in_order _ _ (c.add.ensures.refusal_leaves_all h);
 }

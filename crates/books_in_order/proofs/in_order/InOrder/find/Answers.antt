@@ -5,8 +5,8 @@ use Rattle.books.proofs.Found.{number_none, totals_none}
 use Rattle.books_in_order.proofs.KeyOrdered.{sought_absent, place_within, read_number, read_totals}
 use Rattle.books_in_order.proofs.in_order.InOrder.find.Goals as goal
 
-pub row-at-requires : goal.row-at-requires
-row-at-requires g c =
+pub row_at-requires : goal.row_at-requires
+row_at-requires g c =
     let b = c.args.self.now in
     record { within = place_within g.met.K.Key.total (g.K.Key.plain c.args.key) b.rows.now b.used c.in-Ok.at c.requires.sound c.in-Ok.ensures.sought }
 
@@ -15,8 +15,8 @@ returns-in-Ok g c =
     let b = c.args.self.now in
     let k = g.K.Key.plain c.args.key in
     record {
-      number = read_number g.met.K.Key.total k b.rows.now b.used c.in-Ok.at c.requires.sound c.in-Ok.ensures.sought c.row-at.result c.row-at.ensures.row;
-      totals = read_totals g.met.K.Key.total k b.rows.now b.used c.in-Ok.at c.requires.sound c.in-Ok.ensures.sought c.row-at.result c.row-at.ensures.row;
+      number = read_number g.met.K.Key.total k b.rows.now b.used c.in-Ok.at c.requires.sound c.in-Ok.ensures.sought c.row_at.result c.row_at.ensures.row;
+      totals = read_totals g.met.K.Key.total k b.rows.now b.used c.in-Ok.at c.requires.sound c.in-Ok.ensures.sought c.row_at.result c.row_at.ensures.row;
     }
 
 pub returns-in-Err : goal.returns-in-Err

@@ -6,27 +6,27 @@ use Rattle.books_in_order.proofs.KeyOrdered.{sought_absent, sought_present, has_
 use Rattle.books.proofs.Verdicts.{refused_present, refused_full, allowed}
 use Rattle.books_in_order.proofs.in_order.InOrder.vacancy.Goals as goal
 
-pub returns-in-default : goal.returns-in-default
-returns-in-default g c =
+pub returns-in_default : goal.returns-in_default
+returns-in_default g c =
     let b = c.args.self.now in
     let k = g.K.Key.plain c.args.key in
-    let met = sought_present g.met.K.Key.total k b.rows.now b.used c.in-default.field-0 c.requires.sound c.in-default.ensures.sought in
+    let met = sought_present g.met.K.Key.total k b.rows.now b.used c.in_default.field-0 c.requires.sound c.in_default.ensures.sought in
     record { verdict = refused_present (matches g.K.Key.order k) (in_order_ledger b) c.book.ensures.named tt met; place = tt }
 
-pub returns-then-is-full : goal.returns-then-is-full
-returns-then-is-full g c =
+pub returns-then-is_full : goal.returns-then-is_full
+returns-then-is_full g c =
     let b = c.args.self.now in
     let k = g.K.Key.plain c.args.key in
     let none = sought_absent g.met.K.Key.total k (take b.used b.rows.now) _ c.in-Err.ensures.sought b.used in
-    let full = has_no_room b.rows.now b.used c.requires.sound (leb-true _ _ (sym c.if-is-full.ensures.full)) in
-    record { verdict = refused_full (matches g.K.Key.order k) (in_order_ledger b) c.book-then-is-full.ensures.named tt none full; place = tt }
+    let full = has_no_room b.rows.now b.used c.requires.sound (leb-true _ _ (sym c.if-is_full.ensures.full)) in
+    record { verdict = refused_full (matches g.K.Key.order k) (in_order_ledger b) c.book-then-is_full.ensures.named tt none full; place = tt }
 
 pub returns : goal.returns
 returns g c =
     let b = c.args.self.now in
     let k = g.K.Key.plain c.args.key in
     let none = sought_absent g.met.K.Key.total k (take b.used b.rows.now) _ c.in-Err.ensures.sought b.used in
-    let less = leb-false _ _ (sym c.if-is-full.ensures.full) in
+    let less = leb-false _ _ (sym c.if-is_full.ensures.full) in
     let room = has_room b.rows.now b.used c.requires.sound less in
     record {
       verdict = allowed (matches g.K.Key.order k) (in_order_ledger b) g.K.Key.named tt none room;

@@ -19,7 +19,7 @@ returns g c =
     let entries = changed_there s.used s.slots.now c.count-used.result c.count-used.ensures.in_use f l p _ c.rewrite-self.ensures.after in
     record {
       entries = entries;
-      slots-stay = c.rewrite-self.auto.slots;
-      keeps-rising = change_rising t (slots_of s) f l p (in_use s) _ _ reply entries;
-      in-plain-words = change_plain t (slots_of s) f l p (in_use s) _ _ reply entries;
+      slots_stay = c.rewrite-self.auto.slots;
+      keeps_rising = change_rising t (slots_of s) f l p (in_use s) _ _ reply entries;
+      in_plain_words = change_plain t (slots_of s) f l p (in_use s) _ _ reply entries;
     }

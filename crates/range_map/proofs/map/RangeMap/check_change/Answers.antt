@@ -6,8 +6,8 @@ use Rattle.range_map.proofs.Firsts.{gap_first}
 use Rattle.range_map.proofs.Slots.{few}
 use Rattle.range_map.proofs.map.RangeMap.check_change.Goals as goal
 
-pub judge-change-requires : goal.judge-change-requires
-judge-change-requires g c = omega (arith, ap length c.entries.ensures.as-they-lie, c.capacity-slots.ensures.all_slots, few c.args.self.now.used c.args.self.now.slots.now)
+pub judge_change-requires : goal.judge_change-requires
+judge_change-requires g c = omega (arith, ap length c.entries.ensures.as_they_lie, c.capacity-slots.ensures.all_slots, few c.args.self.now.used c.args.self.now.slots.now)
 
 pub returns : goal.returns
 returns g c =
@@ -15,11 +15,11 @@ returns g c =
     let l = c.args.last in
     let t = g.P.Payload.home in
     let slots = c.capacity-slots.ensures.all_slots in
-    let entries = c.entries.ensures.as-they-lie in
-    let is = c.judge-change.ensures ∙ (λ j. change_answer t (slots j) f l (entries j)) in
+    let entries = c.entries.ensures.as_they_lie in
+    let is = c.judge_change.ensures ∙ (λ j. change_answer t (slots j) f l (entries j)) in
     record {
       reply = is;
-      in-plain-words = λ w. is ∙ change_answer_lem t (slots_of c.args.self.now) f l (in_use c.args.self.now) w;
+      in_plain_words = λ w. is ∙ change_answer_lem t (slots_of c.args.self.now) f l (in_use c.args.self.now) w;
       cut_loses_nothing = cut_loses_nothing (in_use c.args.self.now);
-      uncovered-means = λ good. gap_first f l (in_use c.args.self.now) (good_range f l good).0;
+      uncovered_means = λ good. gap_first f l (in_use c.args.self.now) (good_range f l good).0;
     }

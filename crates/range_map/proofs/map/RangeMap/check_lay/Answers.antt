@@ -9,6 +9,6 @@ returns g c =
     let l = c.args.last in
     let t = g.P.Payload.home in
     let slots = c.capacity-slots.ensures.all_slots in
-    let entries = c.entries.ensures.as-they-lie in
-    let is = c.judge-lay.ensures ∙ (λ j. lay_answer t (slots j) f l (entries j)) in
-    record { reply = is; in-plain-words = λ w. is ∙ lay_answer_lem t (slots_of c.args.self.now) f l (in_use c.args.self.now) w }
+    let entries = c.entries.ensures.as_they_lie in
+    let is = c.judge_lay.ensures ∙ (λ j. lay_answer t (slots j) f l (entries j)) in
+    record { reply = is; in_plain_words = λ w. is ∙ lay_answer_lem t (slots_of c.args.self.now) f l (in_use c.args.self.now) w }

@@ -10,9 +10,9 @@ pub returns : goal.returns
 returns g c =
     let n = c.args.position in
     let m = in_use c.args.self.now in
-    let is = c.covering.ensures ∙ ap (found n) c.entries.ensures.as-they-lie in
+    let is = c.covering.ensures ∙ ap (found n) c.entries.ensures.as_they_lie in
     record {
-      as-placed = is;
-      in-plain-words = λ w. is ∙ found_is 0 (2 ^ 62) m w n;
+      as_placed = is;
+      in_plain_words = λ w. is ∙ found_is 0 (2 ^ 62) m w n;
       covering = λ w. subst (Covering n m) (sym (is ∙ found_is 0 (2 ^ 62) m w n)) (at_covering n 0 (2 ^ 62) m w);
     }

@@ -11,10 +11,10 @@ returns g c =
     let t = g.P.Payload.home in
     let s = c.args.self.now in
     let reply = c.requires in
-    let entries = laid_there s.used s.slots.now c.count-used.result c.count-used.ensures.in_use (entry_of f l p) _ c.lay-down.ensures.after in
+    let entries = laid_there s.used s.slots.now c.count-used.result c.count-used.ensures.in_use (entry_of f l p) _ c.lay_down.ensures.after in
     record {
       entries = entries;
-      slots-stay = c.lay-down.auto.slots;
-      keeps-rising = lay_rising t (slots_of s) f l p (in_use s) _ _ reply entries;
-      in-plain-words = lay_plain t (slots_of s) f l p (in_use s) _ _ reply entries;
+      slots_stay = c.lay_down.auto.slots;
+      keeps_rising = lay_rising t (slots_of s) f l p (in_use s) _ _ reply entries;
+      in_plain_words = lay_plain t (slots_of s) f l p (in_use s) _ _ reply entries;
     }

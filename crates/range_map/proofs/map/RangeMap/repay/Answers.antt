@@ -11,8 +11,8 @@ returns-then-i-count g c =
     record {
       present = sym (le-ltb c.args.i (length m) (omega (arith, c.count.ensures.in_use, c.if-i-count.true)));
       entries = is;
-      absence-leaves-all = λ _. refl;
-      slots-stay = refl;
-      keeps-rising = λ w. w;
-      in-plain-words = λ w. repaid_plain 0 (2 ^ 62) m c.args.i c.args.payload m w is;
+      absence_leaves_all = λ _. refl;
+      slots_stay = refl;
+      keeps_rising = λ w. w;
+      in_plain_words = λ w. repaid_plain 0 (2 ^ 62) m c.args.i c.args.payload m w is;
     }

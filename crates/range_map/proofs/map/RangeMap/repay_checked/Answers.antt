@@ -14,7 +14,7 @@ returns g c =
     let is = ap (take s.used) c.put.ensures.after ∙ take_repaid s.used s.slots.now c.args.i c.args.payload in
     record {
       entries = is;
-      slots-stay = c.put.auto.slots;
-      keeps-rising = λ w. subst Rising (sym is) (between_repaid 0 (2 ^ 62) m c.args.i c.args.payload w);
-      in-plain-words = λ w. repaid_plain 0 (2 ^ 62) m c.args.i c.args.payload _ w is;
+      slots_stay = c.put.auto.slots;
+      keeps_rising = λ w. subst Rising (sym is) (between_repaid 0 (2 ^ 62) m c.args.i c.args.payload w);
+      in_plain_words = λ w. repaid_plain 0 (2 ^ 62) m c.args.i c.args.payload _ w is;
     }

@@ -11,8 +11,8 @@ returns g c =
     let f = c.args.first in
     let l = c.args.last in
     let m = in_use c.args.self.now in
-    let is = c.first-taken.ensures ∙ ap (taken f l) c.entries.ensures.as-they-lie in
+    let is = c.first_taken.ensures ∙ ap (taken f l) c.entries.ensures.as_they_lie in
     record {
-      as-placed = is;
-      in-plain-words = λ w. subst (FirstTaken f l m) (sym (is ∙ taken_is 0 (2 ^ 62) m w f l)) (hit_first f l 0 (2 ^ 62) m w);
+      as_placed = is;
+      in_plain_words = λ w. subst (FirstTaken f l m) (sym (is ∙ taken_is 0 (2 ^ 62) m w f l)) (hit_first f l 0 (2 ^ 62) m w);
     }

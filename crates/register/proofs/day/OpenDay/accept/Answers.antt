@@ -8,33 +8,33 @@ use Rattle.register.specs.declared.answers.OfferCall.TheVariants.{Accept}
 use Rattle.register.proofs.Answering.{settles_refused, settles_booked, answer_booked}
 use Rattle.register.proofs.day.OpenDay.accept.Goals as goal
 
-pub returns-in-err-offer : goal.returns-in-err-offer
-returns-in-err-offer g c =
+pub returns-in_err-offer : goal.returns-in_err-offer
+returns-in_err-offer g c =
     let p = err_from_is_err_and c.from-residual.result c.from-residual.ensures.1 in
     let devices = g.DeviceBook.Book.meaning c.args.devices.now in
     let before = state_of true c.args.self.now.figures (g.AccountBook.Book.meaning c.args.accounts.now) devices c.args.tables.now in
     rw (p.1, p.2) record {
-      settles = settles_refused (acceptance_checks c.args.order) (λ _. tt) (acceptance c.args.order) before c.in-err-offer.field-0.0 (c.in-err-offer.ensures.verdict devices);
-      leaves-day = refl;
-      refusal-leaves-accounts = λ _. refl;
-      leaves-devices = refl;
-      refusal-leaves-tables = λ _. refl;
+      settles = settles_refused (acceptance_checks c.args.order) (λ _. tt) (acceptance c.args.order) before c.in_err-offer.field-0.0 (c.in_err-offer.ensures.verdict devices);
+      leaves_day = refl;
+      refusal_leaves_accounts = λ _. refl;
+      leaves_devices = refl;
+      refusal_leaves_tables = λ _. refl;
     }
 
 pub returns : goal.returns
 returns g c =
     let accounts = g.AccountBook.Book.meaning c.args.accounts.now in
-    let accounts' = g.AccountBook.Book.meaning c.book-acceptance.new.accounts in
+    let accounts' = g.AccountBook.Book.meaning c.book_acceptance.new.accounts in
     let devices = g.DeviceBook.Book.meaning c.args.devices.now in
     let day = c.args.self.now.figures in
     let k = c.args.order.offer in
     record {
       settles =
-          settles_booked (acceptance_checks c.args.order) (λ _. tt) (acceptance c.args.order) (state_of true day accounts devices c.args.tables.now) (state_of true day accounts' devices c.book-acceptance.new.tables)
-          (c.in-ok-offer.ensures.verdict devices)
-          (answer_booked Accept k c.in-ok-offer.offer day accounts accounts' _ devices c.args.tables.now c.book-acceptance.new.tables _ c.in-ok-offer.ensures.on-record c.in-ok-offer.ensures.open c.book-acceptance.ensures.totals c.book-acceptance.ensures.standings c.book-acceptance.ensures.answered c.book-acceptance.ensures.periods-stay c.book-acceptance.ensures.origins-stay c.book-acceptance.ensures.cancellations-stay (acceptance_of k) refl);
-      leaves-day = refl;
-      refusal-leaves-accounts = λ e. absurd (true≢false e);
-      leaves-devices = refl;
-      refusal-leaves-tables = λ e. absurd (true≢false e);
+          settles_booked (acceptance_checks c.args.order) (λ _. tt) (acceptance c.args.order) (state_of true day accounts devices c.args.tables.now) (state_of true day accounts' devices c.book_acceptance.new.tables)
+          (c.in_ok-offer.ensures.verdict devices)
+          (answer_booked Accept k c.in_ok-offer.offer day accounts accounts' _ devices c.args.tables.now c.book_acceptance.new.tables _ c.in_ok-offer.ensures.on_record c.in_ok-offer.ensures.open c.book_acceptance.ensures.totals c.book_acceptance.ensures.standings c.book_acceptance.ensures.answered c.book_acceptance.ensures.periods_stay c.book_acceptance.ensures.origins_stay c.book_acceptance.ensures.cancellations_stay (acceptance_of k) refl);
+      leaves_day = refl;
+      refusal_leaves_accounts = λ e. absurd (true≢false e);
+      leaves_devices = refl;
+      refusal_leaves_tables = λ e. absurd (true≢false e);
     }

@@ -4,19 +4,19 @@ use Rattle.register.proofs.day.OpenDay.declare.Goals as goal
 
 pub returns : goal.returns
 returns g c =
-    let judged = c.in-ok-declaration.ensures.judged in
-    let laid = c.lay-down.ensures in
+    let judged = c.in_ok-declaration.ensures.judged in
+    let laid = c.lay_down.ensures in
     record {
       settles =
-          declared c.args.order c.in-ok-declaration.declaration c.in-ok-declaration.issue c.args.self.now.figures c.last-after-self.result
+          declared c.args.order c.in_ok-declaration.declaration c.in_ok-declaration.issue c.args.self.now.figures c.last_after-self.result
           (g.AccountBook.Book.meaning c.args.accounts.now) (g.AccountBook.Book.meaning c.credit.new.accounts)
-          (g.DeviceBook.Book.meaning c.args.devices.now) (g.DeviceBook.Book.meaning c.write-totals.new.self)
-          c.args.tables.now c.lay-down.new.tables
+          (g.DeviceBook.Book.meaning c.args.devices.now) (g.DeviceBook.Book.meaning c.write_totals.new.self)
+          c.args.tables.now c.lay_down.new.tables
           judged.verdict judged.ready.operands judged.ready.issue
           laid.periods laid.origins laid.standings laid.offers laid.cancellations
-          c.credit.ensures.after c.write-totals.ensures.after c.last-after-self.ensures.last;
-      refusal-leaves-day = λ e. absurd (true≢false e);
-      refusal-leaves-accounts = λ e. absurd (true≢false e);
-      refusal-leaves-devices = λ e. absurd (true≢false e);
-      refusal-leaves-tables = λ e. absurd (true≢false e);
+          c.credit.ensures.after c.write_totals.ensures.after c.last_after-self.ensures.last;
+      refusal_leaves_day = λ e. absurd (true≢false e);
+      refusal_leaves_accounts = λ e. absurd (true≢false e);
+      refusal_leaves_devices = λ e. absurd (true≢false e);
+      refusal_leaves_tables = λ e. absurd (true≢false e);
     }
