@@ -11,10 +11,10 @@ use Rattle.books.specs.declared.changes.Change.TheVariants.{Up}
 use Rattle.order_file.specs.Checked.{plain_declaration}
 use Rattle.order_file.specs.declared.checked.Declaration.{Declaration}
 use Rattle.order_file.specs.declared.orders.Declare.{Declare}
-use Rattle.register.specs.Bookings.{declaration, entry, lay_into, origin_of, period_of}
+use Rattle.register.specs.Bookings.{declaration, entry, lay_into}
 use Rattle.register.specs.Checks.{declaration_checks, device_totals, left, wanted}
 use Rattle.register.specs.Faults.{first_fault}
-use Rattle.register.specs.Issues.{issue_of, issuing}
+use Rattle.register.specs.Issues.{issue_of, issuing, origin_of, period_of}
 use Rattle.register.specs.Runs.{settled}
 use Rattle.register.specs.Settled.{Settles, answer_of, issued_count, map_of, state_of}
 use Rattle.register.specs.State.{MapOf, State, account_from, is_account, is_device, has_device}

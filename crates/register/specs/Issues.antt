@@ -30,6 +30,13 @@ issue_of o s = record {
   period_last = period_at o.device s o.last_day;
 }
 
+-- what a declaration leaves in the tables
+abbrev pub period_of : Declare → Period
+period_of o = record { energy = record { 0 = o.energy } }
+
+abbrev pub origin_of : Declare → Origin
+origin_of o = record { device = o.device; first_day = o.first_day; last_day = o.last_day }
+
 -- a register of which only the last number and the devices are asked
 abbrev pub on_devices : ℕ → Ledger ℕ → State
 on_devices last devices = record {

@@ -3,10 +3,10 @@ ghost use Rattle.std.specs.Prelude.{◌≡◌, true, false, is_ok, if◌then◌e
 ghost use Rattle.books.specs.Changes.{posted};
 ghost use Rattle.books.specs.declared.changes.Change.TheVariants.{Up};
 ghost use Rattle.order_file.specs.Checked.{plain_declaration};
-ghost use Rattle.register.specs.Bookings.{declaration, entry, lay_into, origin_of, period_of};
+ghost use Rattle.register.specs.Bookings.{declaration, entry, lay_into};
 ghost use Rattle.register.specs.Checks.{declaration_checks};
 ghost use Rattle.register.specs.Faults.{fault_in, first_fault};
-ghost use Rattle.register.specs.Issues.{Finds, Reckoned, day_checks, issuing};
+ghost use Rattle.register.specs.Issues.{Finds, Reckoned, day_checks, issuing, origin_of, period_of};
 ghost use Rattle.register.specs.Settled.{Judged, Settles, issued_count, map_of, state_of};
 ghost use Rattle.register.specs.State.{is_account};
 ghost use Rattle.register.specs.declared.rows.Standing.TheVariants.{Held};
