@@ -1,5 +1,5 @@
 -- An order that is not refused has lawful operands. Assumes nothing.
-use Rattle.std.proofs.Common.{◌≡◌, ℕ, Bool, true, false, Some, None, Option, arith}
+use Rattle.std.proofs.Common.{◌≡◌, ℕ, Bool, true, None, Option, arith}
 use Rattle.figures.specs.Gs1.{gs1}
 use Rattle.order_file.specs.Checks.{operand, lawful_account, bad_declare, bad_offer, bad_cancel}
 use Rattle.order_file.specs.Operands.{numbers_lawful, days_lawful, energy_lawful, year_lawful, beneficiary_lawful}

@@ -1,4 +1,4 @@
-use Rattle.std.proofs.Common.{◌≡◌, ◌≤◌, length, drop}
+use Rattle.std.proofs.Common.{◌≡◌, drop}
 use Rattle.order_file.specs.Operands.{all_printable}
 use Rattle.order_file.proofs.operands.all_printable.Given as goal
 
