@@ -1,12 +1,12 @@
 -- From a row that has a key, or from none having it, to what the book's meaning answers. Assumes nothing.
-use Rattle.std.proofs.Common.{◌≡◌, ℕ, suc, ◌+◌, ◌-◌, ◌<◌, ◌≤◌, Bool, true, false, List, [], ◌∷◌, ◌++◌, length, get_or, set, is_some, Some, None, Option, Ordering, sym, refl, ap, ◌∙◌, subst, arith}
+use Rattle.std.proofs.Common.{◌≡◌, ℕ, ◌+◌, ◌-◌, ◌<◌, ◌≤◌, Bool, true, false, List, length, get_or, set, is_some, Some, None, Option, Ordering, sym, refl, ap, ◌∙◌, arith}
 use Rattle.std.proofs.lemmas.Bool.{false≢true}
 use Rattle.figures.specs.Accounts.{TotalOrder}
-use Rattle.books.specs.Ledger.{Member, matches, present, number_from, running_number, totals, apart, total, newcomer, changed}
-use Rattle.books.specs.Rows.{member, numbered, sieve, ordered, Once}
+use Rattle.books.specs.Ledger.{Member, matches, present, running_number, totals, apart, total, changed}
+use Rattle.books.specs.Rows.{member, ordered, Once}
 use Rattle.books.specs.declared.rows.Row.{Row}
-use Rattle.books.proofs.Ledgers.{present_at, totals_at, number_at, changed_at, totals_present, number_present, apart_push, apart_changed}
-use Rattle.books.proofs.Numbering.{length_members, number_bounds, member_at, ordered_absent}
+use Rattle.books.proofs.Ledgers.{present_at, totals_at, number_at, changed_at, totals_present, number_present, apart_changed}
+use Rattle.books.proofs.Numbering.{length_members, number_bounds, member_at}
 use Rattle.books.proofs.RowEdits.{rewritten_once, rewritten_ordered}
 
 none_from : {T : Type 0} (o : Option T) → is_some o ≡ false → None ≡ o

@@ -1,18 +1,18 @@
 -- The laws of ledgers as callers of a book use them: what a call leaves of the members, their totals and
 -- their keys. Assumes nothing.
-use Rattle.std.proofs.Common.{◌≡◌, ℕ, ◌+◌, ◌-◌, ◌≤◌, min, Bool, true, false, cond, List, [], ◌∷◌, ◌++◌, map, length, Some, None, Option, Ordering, sym, refl, ap, ◌∙◌, arith}
+use Rattle.std.proofs.Common.{◌≡◌, ℕ, ◌+◌, ◌-◌, ◌≤◌, Bool, true, false, cond, List, [], ◌∷◌, ◌++◌, map, length, Some, None, Option, Ordering, refl, ap, ◌∙◌, arith}
 use Rattle.std.specs.Option.{option_map}
 use Rattle.std.proofs.lemmas.List.{map_push, length_push}
-use Rattle.std.proofs.lemmas.Bool.{cases_Bool, cond_both, cond-true, cond-false, ltb-true}
+use Rattle.std.proofs.lemmas.Bool.{cond_both, cond-true, cond-false, ltb-true}
 use Rattle.std.proofs.lemmas.Bool.Decides.{nat_tests}
 use Rattle.figures.specs.Accounts.{TotalOrder}
 use Rattle.figures.specs.Limits.{most_total}
 use Rattle.books.specs.Changes.{moved, moved_both, posted}
 use Rattle.books.specs.Faults.{add_after, write_after}
-use Rattle.books.specs.Ledger.{Member, Ledger, matches, present, number_from, running_number, totals, apart, roomy, total, newcomer, enrolled, changed, written_in}
+use Rattle.books.specs.Ledger.{Member, Ledger, matches, present, number_from, running_number, totals, apart, roomy, total, newcomer, enrolled, written_in}
 use Rattle.books.specs.declared.changes.Change.{Change}
 use Rattle.books.specs.declared.changes.Change.TheVariants.{Up, Down}
-use Rattle.books.proofs.Ledgers.{length_changed, keys_changed, present_changed, number_changed, totals_changed, totals_changed_other, apart_changed, apart_push, tests_differ, matches_self, present_push, totals_push, number_push}
+use Rattle.books.proofs.Ledgers.{length_changed, keys_changed, present_changed, number_changed, totals_changed, totals_changed_other, apart_changed, apart_push, matches_self, present_push, totals_push, number_push}
 
 -- Within the limits a total moves by the whole count.
 pub moved_up : (n t : ℕ) → t + n ≤ most_total → moved (Up n) t ≡ t + n

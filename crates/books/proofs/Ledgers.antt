@@ -1,10 +1,10 @@
 -- The laws of ledgers: what is found after a member joins or its totals change. Assumes nothing.
-use Rattle.std.proofs.Common.{◌≡◌, ℕ, zero, suc, ◌+◌, ◌<◌, Bool, true, false, cond, not, ◌&&◌, ◌||◌, List, [], ◌∷◌, ◌++◌, map, length, get_or, set, is_some, Some, None, Option, Ordering, Less, Equal, Greater, sym, refl, ap, ◌∙◌, ⊎_elim, arith}
+use Rattle.std.proofs.Common.{◌≡◌, ℕ, zero, suc, ◌+◌, ◌<◌, Bool, true, false, cond, not, List, [], ◌∷◌, ◌++◌, map, length, get_or, set, is_some, Some, None, Ordering, Less, Equal, Greater, sym, refl, ap, ◌∙◌, ⊎_elim, arith}
 use Rattle.std.specs.Option.{option_map}
 use Rattle.std.proofs.lemmas.Bool.{both_ways, and_parts, cases_Bool, cond-true, cond-false}
 use Rattle.std.proofs.lemmas.Bool.Decides.{nat_tests}
 use Rattle.figures.specs.Accounts.{TotalOrder}
-use Rattle.books.specs.Ledger.{Member, Ledger, is_equal, matches, present, number_from, totals, apart, total, newcomer, changed}
+use Rattle.books.specs.Ledger.{Member, is_equal, matches, present, number_from, totals, apart, total, newcomer, changed}
 
 -- Of a test `is`, and functions f and s of the two totals.
 module _ {P : Type 0} (is : P → Bool) (f s : ℕ → ℕ) where

@@ -1,7 +1,7 @@
 -- What a posting leaves, from the totals that were read. Assumes nothing.
-use Rattle.std.proofs.Common.{◌≡◌, ℕ, Bool, true, false, cond, is_some, Some, None, Option, sym, refl, ap, ◌∙◌, arith}
-use Rattle.std.proofs.lemmas.Bool.{cond-true, cond-false}
-use Rattle.books.specs.Ledger.{Ledger, Member, present, totals, changed}
+use Rattle.std.proofs.Common.{◌≡◌, ℕ, Bool, true, false, is_some, Some, None, sym, ap, ◌∙◌}
+use Rattle.std.proofs.lemmas.Bool.{cond-true}
+use Rattle.books.specs.Ledger.{Ledger, present, totals, changed}
 use Rattle.books.specs.Changes.{moved, moved_both, posted}
 use Rattle.books.specs.Faults.{write_after}
 use Rattle.books.specs.declared.changes.Change.{Change}

@@ -1,12 +1,11 @@
 -- What a row more, or a row with other totals, does to the members. Assumes nothing.
-use Rattle.std.proofs.Common.{◌≡◌, ℕ, zero, suc, ◌+◌, ◌-◌, ◌<◌, ◌≤◌, Bool, true, false, cond, eqb, List, [], ◌∷◌, ◌++◌, length, get_or, take, drop, set, Some, None, Option, sym, refl, ap, ◌∙◌, subst, ⊎_elim, arith}
-use Rattle.std.proofs.lemmas.List.{length-append, length-set, nil_from_length, same_lists, set_split, set-get_or, get_or-set_same, get_or-set_other, get_or_at}
+use Rattle.std.proofs.Common.{◌≡◌, ℕ, suc, ◌+◌, ◌-◌, ◌<◌, ◌≤◌, cond, eqb, List, [], ◌∷◌, ◌++◌, length, get_or, take, drop, set, Some, Option, sym, refl, ap, ◌∙◌, subst, ⊎_elim, arith}
+use Rattle.std.proofs.lemmas.List.{length-append, length-set, same_lists, set_split, set-get_or, get_or-set_same, get_or-set_other, get_or_at}
 use Rattle.std.proofs.lemmas.Bool.{cases_eq, cond_both}
 use Rattle.std.proofs.lemmas.Bool.Decides.{nat_tests}
-use Rattle.books.specs.Ledger.{Member}
 use Rattle.books.specs.Rows.{member, numbered, sieve, ordered, once, Once}
 use Rattle.books.specs.declared.rows.Row.{Row}
-use Rattle.books.proofs.Numbering.{once_within, once_above, sieve_append, sieve_at, numbered_other, ordered_same, length_members, slice_index_or_ordered, sieve_once, number_bounds}
+use Rattle.books.proofs.Numbering.{once_within, sieve_append, sieve_at, numbered_other, ordered_same, length_members, slice_index_or_ordered, sieve_once, number_bounds}
 
 length_numbered : {P : Type 0} (j : ℕ) (r : Row P) → length (numbered j (Some r)) ≡ cond (eqb r.number j) 1 0
 length_numbered j r = cond_both (eqb r.number j) (member r ∷ []) [] (λ l. length l ≡ cond (eqb r.number j) 1 0) (λ e. sym (ap (λ b. cond b 1 0) e)) (λ e. sym (ap (λ b. cond b 1 0) e))

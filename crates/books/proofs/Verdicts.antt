@@ -1,10 +1,9 @@
 -- The answers of a book's calls, from the tests that decide them. Assumes nothing.
-use Rattle.std.proofs.Common.{◌≡◌, ℕ, Bool, true, false, cond, Ok, Err, Result, sym, refl, ap, ◌∙◌}
+use Rattle.std.proofs.Common.{◌≡◌, ℕ, Bool, true, false, Ok, Err, sym, ap, ◌∙◌}
 use Rattle.std.proofs.lemmas.Bool.{cond-true, cond-false}
 use Rattle.figures.specs.declared.names.BookName.{BookName}
-use Rattle.books.specs.Ledger.{Ledger, Member, present, roomy, enrolled, written_in}
+use Rattle.books.specs.Ledger.{Ledger, present, roomy, enrolled, written_in}
 use Rattle.books.specs.Faults.{unless_refused, add_after, write_verdict, write_after}
-use Rattle.books.specs.declared.faults.BookFault.{BookFault}
 use Rattle.books.specs.declared.faults.BookFault.TheVariants.{Present, Full, Absent}
 
 module _ {P : Type 0} {named book : BookName} (is : P → Bool) (l : Ledger P) (name : book ≡ named) where

@@ -1,5 +1,5 @@
 -- The refusals of a book, and the answers of its calls. Assumes nothing.
-use Rattle.std.specs.Prelude.{ℕ, ◌+◌, Bool, cond, length, Ok, Err, Option, Result}
+use Rattle.std.specs.Prelude.{ℕ, ◌+◌, Bool, cond, length, Ok, Err, Result}
 use Rattle.figures.specs.declared.names.BookName.{BookName}
 use Rattle.books.specs.declared.faults.BookFault.{BookFault}
 use Rattle.books.specs.declared.faults.BookFault.TheVariants.{Present, Full, Absent}
