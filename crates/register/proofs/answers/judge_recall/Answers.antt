@@ -6,7 +6,7 @@ use Rattle.register.proofs.answers.judge_recall.Goals as goal
 
 pub returns-in_err-offer : goal.returns-in_err-offer
 returns-in_err-offer g c =
-    let p = err_from_is_err_and c.from-residual-in_err-offer.result c.from-residual-in_err-offer.ensures.1 in
+    let p = err_from_is_err_and c.from_residual-in_err-offer.result c.from_residual-in_err-offer.ensures.1 in
     rw (p.1, p.2) record {
       verdict = λ devices. recall_by c.args.day (g.AccountBook.Book.meaning c.args.accounts.now) devices c.args.tables.now c.in_ok-answer.answer c.args.order (Some c.in_err-offer.field-0.0) c.in_ok-answer.ensures.checked c.in_ok-answer.ensures.refused_at c.in_err-offer.ensures.verdict;
       on_record = tt;

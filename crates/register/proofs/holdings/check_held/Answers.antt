@@ -5,7 +5,7 @@ use Rattle.register.specs.Checks.{not_held_at}
 use Rattle.register.specs.Holdings.{held_by, gap_by, unheld}
 use Rattle.register.proofs.Walks.{drop_past, gap_end, gap_over, gap_late, gap_fails, gap_done, gap_on}
 use Rattle.register.proofs.holdings.check_held.Goals as goal
-use Rattle.register.proofs.holdings.check_held.Goals.{then-number-entry-via-then-number-entry, then-number-entry-via-else-number-entry+then-not-is-held-by}
+use Rattle.register.proofs.holdings.check_held.Goals.{then-number-entry-via-then-number-entry, then-number-entry-via-else-number-entry+then-not-is_held_by}
 
 pub loop-i-init : goal.loop-i-init
 unfolding unheld

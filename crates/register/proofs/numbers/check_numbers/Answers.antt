@@ -7,17 +7,17 @@ use Rattle.register.proofs.numbers.check_numbers.Goals as goal
 
 pub returns-in_err-check_held : goal.returns-in_err-check_held
 returns-in_err-check_held c =
-    let p = err_from_is_err_and c.from-residual.result c.from-residual.ensures.1 in
+    let p = err_from_is_err_and c.from_residual.result c.from_residual.ensures.1 in
     record { judged = judged_err (p.1 ∙ ap Result.Err p.2) (stop c.in_err-check_held.ensures.verdict) }
 
 pub returns-in_err-check_row : goal.returns-in_err-check_row
 returns-in_err-check_row c =
-    let p = err_from_is_err_and c.from-residual-in_err-check_row.result c.from-residual-in_err-check_row.ensures.1 in
+    let p = err_from_is_err_and c.from_residual-in_err-check_row.result c.from_residual-in_err-check_row.ensures.1 in
     record { judged = judged_err (p.1 ∙ ap Result.Err p.2) (pass c.in_ok-check_held.ensures.verdict (stop c.in_err-check_row.ensures.verdict)) }
 
 pub returns-in_err-check_change : goal.returns-in_err-check_change
 returns-in_err-check_change c =
-    let p = err_from_is_err_and c.from-residual-in_err-check_change.result c.from-residual-in_err-check_change.ensures.1 in
+    let p = err_from_is_err_and c.from_residual-in_err-check_change.result c.from_residual-in_err-check_change.ensures.1 in
     let f = c.args.numbers.first.0 in
     let l = c.args.numbers.last.0 in
     let m = in_use c.args.standings.now in

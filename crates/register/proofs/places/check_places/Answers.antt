@@ -8,14 +8,14 @@ pub returns-in_err-check_all_free : goal.returns-in_err-check_all_free
 returns-in_err-check_all_free c =
     let i = c.args.issue in
     let t = c.args.tables.now in
-    let p = err_from_is_err_and c.from-residual.result c.from-residual.ensures.1 in
+    let p = err_from_is_err_and c.from_residual.result c.from_residual.ensures.1 in
     record { judged = judged_err (p.1 ∙ ap Result.Err p.2) (stop_in (free_checks_lem i t) (slot_checks_lem i t) c.in_err-check_all_free.ensures.verdict) }
 
 pub returns-in_err-check_slots : goal.returns-in_err-check_slots
 returns-in_err-check_slots c =
     let i = c.args.issue in
     let t = c.args.tables.now in
-    let p = err_from_is_err_and c.from-residual-in_err-check_slots.result c.from-residual-in_err-check_slots.ensures.1 in
+    let p = err_from_is_err_and c.from_residual-in_err-check_slots.result c.from_residual-in_err-check_slots.ensures.1 in
     record { judged = judged_err (p.1 ∙ ap Result.Err p.2) (pass_all (free_checks_lem i t) (slot_checks_lem i t) c.in_ok-check_all_free.ensures.verdict (known_rest c.in_err-check_slots.ensures.verdict)) }
 
 pub returns : goal.returns

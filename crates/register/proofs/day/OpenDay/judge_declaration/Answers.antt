@@ -8,7 +8,7 @@ use Rattle.register.proofs.day.OpenDay.judge_declaration.Goals as goal
 pub returns-in_err-check_days : goal.returns-in_err-check_days
 returns-in_err-check_days g c =
     let s = state_of true c.args.self.now.figures (g.AccountBook.Book.meaning c.args.accounts.now) (g.DeviceBook.Book.meaning c.args.devices.now) c.args.tables.now in
-    let p = err_from_is_err_and c.from-residual-in_err-check_days.result c.from-residual-in_err-check_days.ensures.1 in
+    let p = err_from_is_err_and c.from_residual-in_err-check_days.result c.from_residual-in_err-check_days.ensures.1 in
     record {
       judged = judged_err (p.1 ∙ ap Result.Err p.2)
           (days_refused c.args.order c.in_ok-declaration.declaration s c.in_ok-declaration.ensures.checked
@@ -21,7 +21,7 @@ returns-in_err-check_days g c =
 pub returns-in_err-check_places : goal.returns-in_err-check_places
 returns-in_err-check_places g c =
     let s = state_of true c.args.self.now.figures (g.AccountBook.Book.meaning c.args.accounts.now) (g.DeviceBook.Book.meaning c.args.devices.now) c.args.tables.now in
-    let p = err_from_is_err_and c.from-residual-in_err-check_places.result c.from-residual-in_err-check_places.ensures.1 in
+    let p = err_from_is_err_and c.from_residual-in_err-check_places.result c.from_residual-in_err-check_places.ensures.1 in
     record {
       judged = judged_err (p.1 ∙ ap Result.Err p.2)
           (to_places c.args.order c.in_ok-declaration.declaration s c.in_ok-declaration.ensures.checked c.of-issue.result c.of-issue.ensures.issue

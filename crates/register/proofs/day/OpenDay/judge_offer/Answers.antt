@@ -8,7 +8,7 @@ use Rattle.register.proofs.day.OpenDay.judge_offer.Goals as goal
 pub returns-in_err-check_numbers : goal.returns-in_err-check_numbers
 returns-in_err-check_numbers g c =
     let s = state_of true c.args.self.now.figures (g.AccountBook.Book.meaning c.args.accounts.now) ledger_without_devices c.args.tables.now in
-    let p = err_from_is_err_and c.from-residual-in_err-check_numbers.result c.from-residual-in_err-check_numbers.ensures.1 in
+    let p = err_from_is_err_and c.from_residual-in_err-check_numbers.result c.from_residual-in_err-check_numbers.ensures.1 in
     record {
       judged = judged_err (p.1 ∙ ap Result.Err p.2)
           (to_numbers c.args.order c.in_ok-terms.terms s c.in_ok-terms.ensures.checked

@@ -10,7 +10,7 @@ use Rattle.register.proofs.day.OpenDay.recall.Goals as goal
 
 pub returns-in_err-offer : goal.returns-in_err-offer
 returns-in_err-offer g c =
-    let p = err_from_is_err_and c.from-residual.result c.from-residual.ensures.1 in
+    let p = err_from_is_err_and c.from_residual.result c.from_residual.ensures.1 in
     let devices = g.DeviceBook.Book.meaning c.args.devices.now in
     let before = state_of true c.args.self.now.figures (g.AccountBook.Book.meaning c.args.accounts.now) devices c.args.tables.now in
     rw (p.1, p.2) record {
