@@ -146,7 +146,7 @@ declaration_passed h o s sound maps rows energies none =
         account = sym (account_known_lem h s rows (account_from o.account)) ∙ account;
         days = leb-true _ _ day-ends.0;
         produced = omega (arith, produced, rows.date);
-        in_term_lem = omega (arith, term, rows.date);
+        within_term = omega (arith, term, rows.date);
         some_energy = leb-true _ _ energy-ends.0;
         energy = leb-true _ _ energy-ends.1;
         numbers = omega (arith, limit, wanted_is h o s energies, rows.last, sound.limit);
@@ -236,7 +236,7 @@ answer_passed h k a party s rows known made by still =
     record {
       answers = record {
         terms = f;
-        made = sym (rows.offers k low (omega (arith, high, rows.offers_made_lem))) ∙ row;
+        made = sym (rows.offers k low (omega (arith, high, rows.offers_on_record))) ∙ row;
         still_open = open_state f.state (sym (ap offer_open numbered) ∙ still);
         by = sym is-party;
         known = sym (account_known_lem h s rows a) ∙ known;
@@ -274,14 +274,14 @@ offer_in_term h s k maps rows none n is =
 
 pub record AcceptsOn (h : History) (o : AcceptOffer) (s : State) : Type 0 where
   pub on : AnswersOn h o.offer (account_from o.account) (λ f. f.to) s
-  pub in_term_lem : (n : ℕ) → status h n ≡ Some (Offered o.offer) → lapsed (today h) (origin h n) ≡ false
+  pub within_term : (n : ℕ) → status h n ≡ Some (Offered o.offer) → lapsed (today h) (origin h n) ≡ false
 
 pub acceptance_passed : (h : History) (o : AcceptOffer) (s : State) → Maps h s → Rows h s → first_fault (acceptance_checks o s) ≡ None → AcceptsOn h o s
 acceptance_passed h o s maps rows none =
     let all = all_passed (acceptance_checks o s) none in
     record {
       on = answer_passed h o.offer (account_from o.account) (λ f. f.to) s rows (account_there (account_from o.account) s all.1.0) all.1.1.0 all.1.1.1.0 all.1.1.1.1.0;
-      in_term_lem = offer_in_term h s o.offer maps rows all.1.1.1.1.1.0;
+      within_term = offer_in_term h s o.offer maps rows all.1.1.1.1.1.0;
     }
 
 -- the others

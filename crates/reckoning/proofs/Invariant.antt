@@ -31,7 +31,7 @@ pub record Sound (h : History) : Type 0 where
   pub no_cancellation_past : (k : ℕ) → cancellations_made h < k → cancellation h k ≡ None
   -- the range of an offer: numbers that were issued
   pub offer_range : (k : ℕ) (f : Offer) → offer h k ≡ Some f → (1 ≤ f.first.0) × (f.first.0 ≤ f.last.0) × (f.last.0 ≤ issued h)
-  pub in_term_lem : (n : ℕ) (a : Account) → status h n ≡ Some (Held a) → lapsed (today h) (origin h n) ≡ false
+  pub within_term : (n : ℕ) (a : Account) → status h n ≡ Some (Held a) → lapsed (today h) (origin h n) ≡ false
 
 -- a fact of every entry
 abbrev pub Each : {P : Type 0} → (Entry P → Type 0) → List (Entry P) → Type 0
@@ -53,8 +53,8 @@ pub record Rows (h : History) (s : State) : Type 0 where
   pub phase : s.opened ≡ day_open h
   pub date : s.date ≡ today h
   pub last : s.last ≡ issued h
-  pub offers_made_lem : s.offered ≡ offers_made h
-  pub cancellations_made_lem : s.cancelled ≡ cancellations_made h
+  pub offers_on_record : s.offered ≡ offers_made h
+  pub cancellations_on_record : s.cancelled ≡ cancellations_made h
   pub offers : (k : ℕ) → 1 ≤ k → k ≤ offers_made h → nth (k - 1) s.offers ≡ offer h k
   pub cancellations : (k : ℕ) → 1 ≤ k → k ≤ cancellations_made h → nth (k - 1) s.cancellations ≡ cancellation h k
   pub account_keys : map (λ m. m.key) s.accounts.members ≡ accounts_opened h

@@ -76,8 +76,8 @@ module _ (h : History) (s : State) (rows : Rows h s) where
     phase = rows.phase;
     date = rows.date;
     last = rows.last;
-    offers_made_lem = rows.offers_made_lem;
-    cancellations_made_lem = rows.cancellations_made_lem;
+    offers_on_record = rows.offers_on_record;
+    cancellations_on_record = rows.cancellations_on_record;
     offers = rows.offers;
     cancellations = rows.cancellations;
     account_keys = map_push (λ m. m.key) s.accounts.members (newcomer (account_from o.account)) ∙ ap (λ ks. ks ++ (account_from o.account ∷ [])) rows.account_keys;
@@ -90,8 +90,8 @@ module _ (h : History) (s : State) (rows : Rows h s) where
     phase = rows.phase;
     date = rows.date;
     last = rows.last;
-    offers_made_lem = rows.offers_made_lem;
-    cancellations_made_lem = rows.cancellations_made_lem;
+    offers_on_record = rows.offers_on_record;
+    cancellations_on_record = rows.cancellations_on_record;
     offers = rows.offers;
     cancellations = rows.cancellations;
     account_keys = rows.account_keys;
@@ -104,8 +104,8 @@ module _ (h : History) (s : State) (rows : Rows h s) where
     phase = rows.phase;
     date = rows.date;
     last = cond_both {A = ℕ} (ltb 0 (wanted o s)) (last_issued o s) s.last (λ x. x ≡ issued h + issued_by h o) (λ _. omega (arith, so_far, same)) (λ b. omega (arith, ltb-false 0 (wanted o s) b, rows.last, same));
-    offers_made_lem = rows.offers_made_lem;
-    cancellations_made_lem = rows.cancellations_made_lem;
+    offers_on_record = rows.offers_on_record;
+    cancellations_on_record = rows.cancellations_on_record;
     offers = rows.offers;
     cancellations = rows.cancellations;
     account_keys = cond_both {A = Ledger Account} (ltb 0 (wanted o s)) _ s.accounts (λ l. keys_of l ≡ accounts_opened h) (λ _. keys_posted _ (Up (wanted o s)) (Up 0) s.accounts ∙ rows.account_keys) (λ _. rows.account_keys);
@@ -118,12 +118,12 @@ module _ (h : History) (s : State) (rows : Rows h s) where
     phase = rows.phase;
     date = rows.date;
     last = rows.last;
-    offers_made_lem = ap (λ n. n + 1) rows.offers_made_lem;
-    cancellations_made_lem = rows.cancellations_made_lem;
+    offers_on_record = ap (λ n. n + 1) rows.offers_on_record;
+    cancellations_on_record = rows.cancellations_on_record;
     offers = λ k low high.
         ⊎_elim
-        (λ is. let at : k - 1 ≡ s.offered = omega (arith, rows.offers_made_lem) in ap (λ i. nth i (set s.offers s.offered (offer_of o))) at ∙ nth_set_same s.offers s.offered (offer_of o) within ∙ sym (cond-true _ _ _ (eq-eqb k (offers_made h + 1) is)))
-        (λ differs. nth_set_other s.offers (k - 1) s.offered (offer_of o) (λ e. differs (omega (arith, rows.offers_made_lem))) ∙ rows.offers k low (omega (arith, differs)) ∙ sym (cond-false _ _ _ (ne_eqb k (offers_made h + 1) differs)))
+        (λ is. let at : k - 1 ≡ s.offered = omega (arith, rows.offers_on_record) in ap (λ i. nth i (set s.offers s.offered (offer_of o))) at ∙ nth_set_same s.offers s.offered (offer_of o) within ∙ sym (cond-true _ _ _ (eq-eqb k (offers_made h + 1) is)))
+        (λ differs. nth_set_other s.offers (k - 1) s.offered (offer_of o) (λ e. differs (omega (arith, rows.offers_on_record))) ∙ rows.offers k low (omega (arith, differs)) ∙ sym (cond-false _ _ _ (ne_eqb k (offers_made h + 1) differs)))
         (cases_eq k (offers_made h + 1));
     cancellations = rows.cancellations;
     account_keys = keys_changed _ _ _ s.accounts.members ∙ rows.account_keys;
@@ -144,8 +144,8 @@ module _ (h : History) (s : State) (rows : Rows h s) where
     phase = rows.phase;
     date = rows.date;
     last = rows.last;
-    offers_made_lem = rows.offers_made_lem;
-    cancellations_made_lem = rows.cancellations_made_lem;
+    offers_on_record = rows.offers_on_record;
+    cancellations_on_record = rows.cancellations_on_record;
     offers = closed_row Accepted o.offer f one within made;
     cancellations = rows.cancellations;
     account_keys = keys_changed _ _ _ _ ∙ keys_changed _ _ _ s.accounts.members ∙ rows.account_keys;
@@ -158,8 +158,8 @@ module _ (h : History) (s : State) (rows : Rows h s) where
     phase = rows.phase;
     date = rows.date;
     last = rows.last;
-    offers_made_lem = rows.offers_made_lem;
-    cancellations_made_lem = rows.cancellations_made_lem;
+    offers_on_record = rows.offers_on_record;
+    cancellations_on_record = rows.cancellations_on_record;
     offers = closed_row Recalled o.offer f one within made;
     cancellations = rows.cancellations;
     account_keys = keys_changed _ _ _ s.accounts.members ∙ rows.account_keys;
@@ -172,13 +172,13 @@ module _ (h : History) (s : State) (rows : Rows h s) where
     phase = rows.phase;
     date = rows.date;
     last = rows.last;
-    offers_made_lem = rows.offers_made_lem;
-    cancellations_made_lem = ap (λ n. n + 1) rows.cancellations_made_lem;
+    offers_on_record = rows.offers_on_record;
+    cancellations_on_record = ap (λ n. n + 1) rows.cancellations_on_record;
     offers = rows.offers;
     cancellations = λ k low high.
         ⊎_elim
-        (λ is. let at : k - 1 ≡ s.cancelled = omega (arith, rows.cancellations_made_lem) in ap (λ i. nth i (set s.cancellations s.cancelled (cancellation_of s.date o))) at ∙ nth_set_same s.cancellations s.cancelled (cancellation_of s.date o) within ∙ ap (λ d. Some (cancellation_of d o)) rows.date ∙ sym (cond-true _ _ _ (eq-eqb k (cancellations_made h + 1) is)))
-        (λ differs. nth_set_other s.cancellations (k - 1) s.cancelled (cancellation_of s.date o) (λ e. differs (omega (arith, rows.cancellations_made_lem))) ∙ rows.cancellations k low (omega (arith, differs)) ∙ sym (cond-false _ _ _ (ne_eqb k (cancellations_made h + 1) differs)))
+        (λ is. let at : k - 1 ≡ s.cancelled = omega (arith, rows.cancellations_on_record) in ap (λ i. nth i (set s.cancellations s.cancelled (cancellation_of s.date o))) at ∙ nth_set_same s.cancellations s.cancelled (cancellation_of s.date o) within ∙ ap (λ d. Some (cancellation_of d o)) rows.date ∙ sym (cond-true _ _ _ (eq-eqb k (cancellations_made h + 1) is)))
+        (λ differs. nth_set_other s.cancellations (k - 1) s.cancelled (cancellation_of s.date o) (λ e. differs (omega (arith, rows.cancellations_on_record))) ∙ rows.cancellations k low (omega (arith, differs)) ∙ sym (cond-false _ _ _ (ne_eqb k (cancellations_made h + 1) differs)))
         (cases_eq k (cancellations_made h + 1));
     account_keys = keys_changed _ _ _ s.accounts.members ∙ rows.account_keys;
     device_keys = rows.device_keys;
@@ -190,8 +190,8 @@ module _ (h : History) (s : State) (rows : Rows h s) where
     phase = refl;
     date = refl;
     last = rows.last;
-    offers_made_lem = rows.offers_made_lem;
-    cancellations_made_lem = rows.cancellations_made_lem;
+    offers_on_record = rows.offers_on_record;
+    cancellations_on_record = rows.cancellations_on_record;
     offers = rows.offers;
     cancellations = rows.cancellations;
     account_keys = keys_lowered_all o.date s.origins.entries s.standings.entries s.accounts ∙ rows.account_keys;
@@ -204,8 +204,8 @@ module _ (h : History) (s : State) (rows : Rows h s) where
     phase = refl;
     date = rows.date;
     last = rows.last;
-    offers_made_lem = rows.offers_made_lem;
-    cancellations_made_lem = rows.cancellations_made_lem;
+    offers_on_record = rows.offers_on_record;
+    cancellations_on_record = rows.cancellations_on_record;
     offers = rows.offers;
     cancellations = rows.cancellations;
     account_keys = rows.account_keys;

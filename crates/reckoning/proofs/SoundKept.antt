@@ -95,7 +95,7 @@ sound_none = record {
   no_offer_past = λ k past. refl;
   no_cancellation_past = λ k past. refl;
   offer_range = λ k f h. absurd (none_some h);
-  in_term_lem = λ n a h. absurd (none_some h);
+  within_term = λ n a h. absurd (none_some h);
 }
 
 -- a declaration
@@ -131,9 +131,9 @@ module _ (h : History) (o : Declare) (sound : Sound h) (may : Declares h o) wher
   term_of : (n : ℕ) → is_next h o n ≡ true → lapsed (today h) (origin (call.Declaration o ∷ h) n) ≡ false
   unfolding origin
   term_of n is-next =
-      let in_term_lem = may.in_term_lem in
+      let within_term = may.within_term in
       ap (lapsed (today h)) (cond-true _ _ _ is-next)
-      ∙ ap is_some (cond-false _ _ _ (le-ltb (valid_until o.last_day) (today h) may.in_term_lem))
+      ∙ ap is_some (cond-false _ _ _ (le-ltb (valid_until o.last_day) (today h) may.within_term))
 
   term_kept : (n : ℕ) → is_next h o n ≡ false → origin (call.Declaration o ∷ h) n ≡ origin h n
   unfolding origin
@@ -163,7 +163,7 @@ module _ (h : History) (o : Declare) (sound : Sound h) (may : Declares h o) wher
     no_offer_past = sound.no_offer_past;
     no_cancellation_past = sound.no_cancellation_past;
     offer_range = λ k f made. let r = sound.offer_range k f made in (r.0, r.1, omega (arith, r.2));
-    in_term_lem = λ n a is. ⊎_elim (λ p. term_of n p.0) (λ p. ap (lapsed (today h)) (term_kept n p.0) ∙ sound.in_term_lem n a p.1) (was n (Held a) is);
+    within_term = λ n a is. ⊎_elim (λ p. term_of n p.0) (λ p. ap (lapsed (today h)) (term_kept n p.0) ∙ sound.within_term n a p.1) (was n (Held a) is);
   }
 
 -- numbers of a range that one account holds get another standing: what an offer and a cancellation have in common
@@ -253,7 +253,7 @@ module _ (h : History) (o : MakeOffer) (sound : Sound h) (may : Offers h o) wher
     no_offer_past = λ k past. offer_old k (λ is. omega arith) ∙ sound.no_offer_past k (omega arith);
     no_cancellation_past = sound.no_cancellation_past;
     offer_range = range_after;
-    in_term_lem = λ n a is. ⊎_elim (λ p. absurd (held_offered (sym p.1))) (λ p. sound.in_term_lem n a p.1) (was_put h sender o.first o.last sound may.held new n (Held a) is);
+    within_term = λ n a is. ⊎_elim (λ p. absurd (held_offered (sym p.1))) (λ p. sound.within_term n a p.1) (was_put h sender o.first o.last sound may.held new n (Held a) is);
   }
 
 -- a cancellation
@@ -305,7 +305,7 @@ module _ (h : History) (o : Cancel) (sound : Sound h) (may : Cancels h o) where
     no_offer_past = sound.no_offer_past;
     no_cancellation_past = λ k past. cancellation_old k (λ is. omega arith) ∙ sound.no_cancellation_past k (omega arith);
     offer_range = sound.offer_range;
-    in_term_lem = λ n a is. ⊎_elim (λ p. absurd (held_cancelled (sym p.1))) (λ p. sound.in_term_lem n a p.1) (was_put h holder o.first o.last sound may.held now_cancelled n (Held a) is);
+    within_term = λ n a is. ⊎_elim (λ p. absurd (held_cancelled (sym p.1))) (λ p. sound.within_term n a p.1) (was_put h holder o.first o.last sound may.held now_cancelled n (Held a) is);
   }
 
 pub under_offer_lem : (k : ℕ) (x : Option Standing) → passes (offered_under k) x ≡ true → x ≡ Some (Offered k)
@@ -401,7 +401,7 @@ module _ (h : History) (o : AcceptOffer) (sound : Sound h) (may : Accepts h o) w
         no_offer_past = λ j past. closed_none h k terms sound made Accepted refl to_receiver j (sound.no_offer_past j past);
         no_cancellation_past = sound.no_cancellation_past;
         offer_range = closed_range h k terms sound made Accepted refl to_receiver;
-        in_term_lem = λ n a is. ⊎_elim (λ p. may.in_term_lem n (under_offer_lem k (status h n) p.0)) (λ p. sound.in_term_lem n a p.1) (was_freed h k terms sound made Accepted refl to_receiver n (Held a) (sym (accepted_status n) ∙ is));
+        within_term = λ n a is. ⊎_elim (λ p. may.within_term n (under_offer_lem k (status h n) p.0)) (λ p. sound.within_term n a p.1) (was_freed h k terms sound made Accepted refl to_receiver n (Held a) (sym (accepted_status n) ∙ is));
       }
 
 -- a recall
@@ -452,7 +452,7 @@ module _ (h : History) (o : RecallOffer) (sound : Sound h) (may : Answers h o.of
         no_offer_past = λ j past. closed_none h k f sound made Recalled refl given_back j (sound.no_offer_past j past);
         no_cancellation_past = sound.no_cancellation_past;
         offer_range = closed_range h k f sound made Recalled refl given_back;
-        in_term_lem = λ n a is. ⊎_elim (λ p. held_in_term (late n) f.from a p.1) (λ p. sound.in_term_lem n a p.1) (was_freed h k f sound made Recalled refl given_back n (Held a) (sym (recalled_status n) ∙ is));
+        within_term = λ n a is. ⊎_elim (λ p. held_in_term (late n) f.from a p.1) (λ p. sound.within_term n a p.1) (was_freed h k f sound made Recalled refl given_back n (Held a) (sym (recalled_status n) ∙ is));
       }
 
 -- the opening of a day
@@ -491,17 +491,17 @@ module _ (h : History) (o : NewDay) (sound : Sound h) where
     no_offer_past = sound.no_offer_past;
     no_cancellation_past = sound.no_cancellation_past;
     offer_range = sound.offer_range;
-    in_term_lem = λ n a is. ⊎_elim (λ p. absurd (expired_held p.1)) (λ p. still_held n a p.0 p.1) (was_kept n (Held a) is);
+    within_term = λ n a is. ⊎_elim (λ p. absurd (expired_held p.1)) (λ p. still_held n a p.0 p.1) (was_kept n (Held a) is);
   }
 
 pub sound_step : (c : Call) (h : History) → Sound h → Permitted c h → Sound (c ∷ h)
 unfolding status issued offer cancellation offers_made cancellations_made today origin declared
-sound_step (call.Account o) h sound may = record { covered = sound.covered; fresh = sound.fresh; zero = sound.zero; limit = sound.limit; due = sound.due; offered_named = sound.offered_named; named_offered = sound.named_offered; cancelled_named = sound.cancelled_named; named_cancelled = sound.named_cancelled; no_offer_0 = sound.no_offer_0; no_offer_past = sound.no_offer_past; no_cancellation_past = sound.no_cancellation_past; offer_range = sound.offer_range; in_term_lem = sound.in_term_lem }
-sound_step (call.Device o) h sound may = record { covered = sound.covered; fresh = sound.fresh; zero = sound.zero; limit = sound.limit; due = sound.due; offered_named = sound.offered_named; named_offered = sound.named_offered; cancelled_named = sound.cancelled_named; named_cancelled = sound.named_cancelled; no_offer_0 = sound.no_offer_0; no_offer_past = sound.no_offer_past; no_cancellation_past = sound.no_cancellation_past; offer_range = sound.offer_range; in_term_lem = sound.in_term_lem }
+sound_step (call.Account o) h sound may = record { covered = sound.covered; fresh = sound.fresh; zero = sound.zero; limit = sound.limit; due = sound.due; offered_named = sound.offered_named; named_offered = sound.named_offered; cancelled_named = sound.cancelled_named; named_cancelled = sound.named_cancelled; no_offer_0 = sound.no_offer_0; no_offer_past = sound.no_offer_past; no_cancellation_past = sound.no_cancellation_past; offer_range = sound.offer_range; within_term = sound.within_term }
+sound_step (call.Device o) h sound may = record { covered = sound.covered; fresh = sound.fresh; zero = sound.zero; limit = sound.limit; due = sound.due; offered_named = sound.offered_named; named_offered = sound.named_offered; cancelled_named = sound.cancelled_named; named_cancelled = sound.named_cancelled; no_offer_0 = sound.no_offer_0; no_offer_past = sound.no_offer_past; no_cancellation_past = sound.no_cancellation_past; offer_range = sound.offer_range; within_term = sound.within_term }
 sound_step (call.Declaration o) h sound may = sound_declaration h o sound may
 sound_step (call.Offer o) h sound may = sound_offer h o sound may
 sound_step (call.Acceptance o) h sound may = sound_acceptance h o sound may
 sound_step (call.Recall o) h sound may = sound_recall h o sound may
 sound_step (call.Cancellation o) h sound may = sound_cancellation h o sound may
 sound_step (call.DayOpening o) h sound may = sound_day_opening h o sound
-sound_step call.DayClosing h sound may = record { covered = sound.covered; fresh = sound.fresh; zero = sound.zero; limit = sound.limit; due = sound.due; offered_named = sound.offered_named; named_offered = sound.named_offered; cancelled_named = sound.cancelled_named; named_cancelled = sound.named_cancelled; no_offer_0 = sound.no_offer_0; no_offer_past = sound.no_offer_past; no_cancellation_past = sound.no_cancellation_past; offer_range = sound.offer_range; in_term_lem = sound.in_term_lem }
+sound_step call.DayClosing h sound may = record { covered = sound.covered; fresh = sound.fresh; zero = sound.zero; limit = sound.limit; due = sound.due; offered_named = sound.offered_named; named_offered = sound.named_offered; cancelled_named = sound.cancelled_named; named_cancelled = sound.named_cancelled; no_offer_0 = sound.no_offer_0; no_offer_past = sound.no_offer_past; no_cancellation_past = sound.no_cancellation_past; offer_range = sound.offer_range; within_term = sound.within_term }

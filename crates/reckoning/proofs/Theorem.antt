@@ -157,7 +157,7 @@ module _ (h : History) (s : State) (sound : Sound h) (m : Matches h s) where
       let after = sound_step (call.Offer o) h sound on.permitted in (
         on.permitted,
         record {
-          maps = maps_offer h s maps o _ rows.offers_made_lem on.permitted.held;
+          maps = maps_offer h s maps o _ rows.offers_on_record on.permitted.held;
           rows = rows_offer h s rows o on.slot;
           totals = totals_offer h o s sound m.totals on.permitted on.sender after;
           energies = energies_same;
@@ -171,7 +171,7 @@ module _ (h : History) (s : State) (sound : Sound h) (m : Matches h s) where
       let on = passed.on in
       let f = on.answers.terms in
       let made = on.answers.made in
-      let may : Accepts h o = record { answers = on.answers; in_term_lem = passed.in_term_lem } in
+      let may : Accepts h o = record { answers = on.answers; within_term = passed.within_term } in
       let after = sound_step (call.Acceptance o) h sound may in
       let is = ap (λ x. of_offer (acceptance_of o.offer) x s) on.found in (
         may,
@@ -206,7 +206,7 @@ module _ (h : History) (s : State) (sound : Sound h) (m : Matches h s) where
       let on = cancellation_passed h o s maps rows none in (
         on.permitted,
         record {
-          maps = maps_cancellation h s maps o _ rows.cancellations_made_lem on.permitted.held;
+          maps = maps_cancellation h s maps o _ rows.cancellations_on_record on.permitted.held;
           rows = rows_cancellation h s rows o on.slot;
           totals = totals_cancellation h o s sound m.totals on.permitted;
           energies = energies_same;
@@ -275,8 +275,8 @@ new_holds s new = record {
       phase = new.closed;
       date = new.date;
       last = new.last;
-      offers_made_lem = new.offered;
-      cancellations_made_lem = new.cancelled;
+      offers_on_record = new.offered;
+      cancellations_on_record = new.cancelled;
       offers = λ k low high. absurd (omega arith);
       cancellations = λ k low high. absurd (omega arith);
       account_keys = ap (map (λ m. m.key)) new.no_accounts;
@@ -313,7 +313,7 @@ agrees h s holds =
       one_cancellation = λ n j k p q. let e = sym (sound.named_cancelled n j p) ∙ sound.named_cancelled n k q in cc;
       held_total = m.totals.held;
       offered_total = λ a. m.totals.offered a ∙ sym (offered_counts h sound a);
-      in_term_lem = sound.in_term_lem;
+      within_term = sound.within_term;
       energy = λ d. omega (arith, m.energies.certificates d, m.energies.remainder d);
       remainder = λ d. omega (arith, m.energies.remainder d);
       accounts = m.rows.account_keys;
@@ -321,8 +321,8 @@ agrees h s holds =
       phase = m.rows.phase;
       date = m.rows.date;
       last = m.rows.last;
-      offers_made_lem = m.rows.offers_made_lem;
-      cancellations_made_lem = m.rows.cancellations_made_lem;
+      offers_on_record = m.rows.offers_on_record;
+      cancellations_on_record = m.rows.cancellations_on_record;
       offers = m.rows.offers;
       cancellations = m.rows.cancellations;
       lawful = holds.lawful;

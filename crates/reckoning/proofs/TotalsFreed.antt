@@ -244,8 +244,8 @@ module _ (h : History) (o : RecallOffer) (s : State) (sound : Sound h) (maps : M
   abbrev given : ℕ
   given = counted (given_back o.offer s.date s.origins.entries) s.standings.entries
 
-  abbrev offered_numbers_lem : ℕ
-  offered_numbers_lem = counted (under_offer o.offer) s.standings.entries
+  abbrev numbers_offered : ℕ
+  numbers_offered = counted (under_offer o.offer) s.standings.entries
 
   given_count : given ≡ how_many back (issued h + 1)
   given_count =
@@ -275,7 +275,7 @@ module _ (h : History) (o : RecallOffer) (s : State) (sound : Sound h) (maps : M
       ∙ how_many_split (held_at recalled a) (held_at h a) (λ _. false) (issued h + 1) (λ n _. ap bit (ap (passes (held_by a)) (recalled_status n)) ∙ freed_held_split h o.offer returns a (λ i. not (late i) && is_account a f.from) (λ i. returned_held a (late i)) n ∙ ap (λ x. bit (held_at h a n) + bit x) (and_no (under h s sound maps o.offer n) _ (and_no (not (late n)) (is_account a f.from) other)))
       ∙ omega (arith, how_many_none (issued h + 1))
 
-  sender_offers_no_more : (a : Account) → is_account a f.from ≡ true → offered_numbers h a ≡ offered_numbers recalled a + offered_numbers_lem
+  sender_offers_no_more : (a : Account) → is_account a f.from ≡ true → offered_numbers h a ≡ offered_numbers recalled a + numbers_offered
   unfolding offered_numbers
   sender_offers_no_more a this =
       how_many_split (offered_at h a) (offered_at recalled a) (under h s sound maps o.offer) (issued h + 1) (λ n _. freed_offered_split h recalled o.offer f made Recalled returns a (λ i. returned_not_offered a (late i)) recalled_offers this n ∙ ap (λ x. bit (offered_by recalled a x) + bit (under h s sound maps o.offer n)) (sym (recalled_status n)))
@@ -288,10 +288,10 @@ module _ (h : History) (o : RecallOffer) (s : State) (sound : Sound h) (maps : M
 
   recall_posting : Sound recalled → (a : Account) → ((totals_of (is_account a) (recall_of o.offer f s).accounts).0 ≡ held_count recalled a) × ((totals_of (is_account a) (recall_of o.offer f s).accounts).1 ≡ offered_numbers recalled a)
   recall_posting after a =
-      party a f.from (Up given) (Down offered_numbers_lem) s.accounts (held_count recalled a) (offered_numbers recalled a)
+      party a f.from (Up given) (Down numbers_offered) s.accounts (held_count recalled a) (offered_numbers recalled a)
       (λ this. (
         up _ given _ _ (ap (λ x. present (is_account x) s.accounts.members) (matches_equal account_order_total a f.from this) ∙ known) (held_few recalled after a) (sender_regains a this ∙ ap (λ x. x + given) (sym (totals.held a))),
-        down _ offered_numbers_lem _ _ (none_offered h s totals a) (omega (arith, totals.offered a, offered_few h sound a)) (totals.offered a ∙ sender_offers_no_more a this),
+        down _ numbers_offered _ _ (none_offered h s totals a) (omega (arith, totals.offered a, offered_few h sound a)) (totals.offered a ∙ sender_offers_no_more a this),
       ))
       (λ other. (totals.held a ∙ sym (rest_keep a other), totals.offered a ∙ rest_offer a other))
 

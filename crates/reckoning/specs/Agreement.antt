@@ -38,7 +38,7 @@ pub record Agrees (h : History) (s : State) : Type 0 where
   pub held_total : (a : Account) → (totals_of (is_account a) s.accounts).0 ≡ held_count h a
   pub offered_total : (a : Account) → (totals_of (is_account a) s.accounts).1 ≡ offered_count h a
   -- no held number is past its last valid day
-  pub in_term_lem : (n : ℕ) (a : Account) → status h n ≡ Some (Held a) → lapsed (today h) (origin h n) ≡ false
+  pub within_term : (n : ℕ) (a : Account) → status h n ≡ Some (Held a) → lapsed (today h) (origin h n) ≡ false
   -- a device's certificates and its remainder are its declared watt-hours
   pub energy : (d : ℕ) → certificate_size * (totals_of (is_device d) s.devices).1 + (totals_of (is_device d) s.devices).0 ≡ declared h d
   pub remainder : (d : ℕ) → (totals_of (is_device d) s.devices).0 < certificate_size
@@ -49,8 +49,8 @@ pub record Agrees (h : History) (s : State) : Type 0 where
   pub phase : s.opened ≡ day_open h
   pub date : s.date ≡ today h
   pub last : s.last ≡ issued h
-  pub offers_made_lem : s.offered ≡ offers_made h
-  pub cancellations_made_lem : s.cancelled ≡ cancellations_made h
+  pub offers_on_record : s.offered ≡ offers_made h
+  pub cancellations_on_record : s.cancelled ≡ cancellations_made h
   pub offers : (k : ℕ) → 1 ≤ k → k ≤ offers_made h → nth (k - 1) s.offers ≡ offer h k
   pub cancellations : (k : ℕ) → 1 ≤ k → k ≤ cancellations_made h → nth (k - 1) s.cancellations ≡ cancellation h k
   -- every booked call was lawful when it was made

@@ -42,7 +42,7 @@ pub record Declares (h : History) (o : Declare) : Type 0 where
   pub account : opened h (account_from o.account) ≡ true
   pub days : o.first_day ≤ o.last_day
   pub produced : o.last_day < today h
-  pub in_term_lem : today h ≤ valid_until o.last_day
+  pub within_term : today h ≤ valid_until o.last_day
   pub some_energy : 1 ≤ o.energy
   pub energy : o.energy ≤ most_energy
   pub numbers : issued h + issued_by h o ≤ last_certificate_number
@@ -63,7 +63,7 @@ pub record Answers (h : History) (k : ℕ) (a : Account) (party : Offer → Acco
 
 pub record Accepts (h : History) (o : AcceptOffer) : Type 0 where
   pub answers : Answers h o.offer (account_from o.account) (λ f. f.to)
-  pub in_term_lem : (n : ℕ) → status h n ≡ Some (Offered o.offer) → lapsed (today h) (origin h n) ≡ false
+  pub within_term : (n : ℕ) → status h n ≡ Some (Offered o.offer) → lapsed (today h) (origin h n) ≡ false
 
 pub record Cancels (h : History) (o : Cancel) : Type 0 where
   pub account : opened h (account_from o.account) ≡ true

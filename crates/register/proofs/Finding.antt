@@ -70,11 +70,11 @@ module _ (i : Issue) (tables : Tables)
     }
 
 module _ (i : Issue) (tables : Tables) where
-  abbrev pub free_checks_lem : List (Option Fault)
-  free_checks_lem = free_checks i (map_of tables.periods) (map_of tables.origins) (map_of tables.standings)
+  abbrev pub checks_of_free : List (Option Fault)
+  checks_of_free = free_checks i (map_of tables.periods) (map_of tables.origins) (map_of tables.standings)
 
-  abbrev pub slot_checks_lem : List (Option Fault)
-  slot_checks_lem = slot_checks i (map_of tables.periods) (map_of tables.origins) (map_of tables.standings)
+  abbrev pub checks_of_slots : List (Option Fault)
+  checks_of_slots = slot_checks i (map_of tables.periods) (map_of tables.origins) (map_of tables.standings)
 
-  pub finds : i.period_first ≤ i.period_last → i.period_last < 2 ^ 62 → i.first.0 + i.count.0 ≡ i.last.0 + 1 → None ≡ first_fault free_checks_lem → None ≡ first_fault slot_checks_lem → Finds i tables
-  finds rises within as_many free slots = all_found i tables rises within as_many (all_pass free_checks_lem free) (all_pass slot_checks_lem slots)
+  pub finds : i.period_first ≤ i.period_last → i.period_last < 2 ^ 62 → i.first.0 + i.count.0 ≡ i.last.0 + 1 → None ≡ first_fault checks_of_free → None ≡ first_fault checks_of_slots → Finds i tables
+  finds rises within as_many free slots = all_found i tables rises within as_many (all_pass checks_of_free free) (all_pass checks_of_slots slots)

@@ -8,7 +8,7 @@ use Rattle.range_map.specs.Sample.{added, one_entry, refusal}
 
 pub data Sample : Type 0 where
   -- a certificate's last production day and its last valid day
-  valid_until_lem : ℕ → ℕ → Sample
+  valid_until : ℕ → ℕ → Sample
   -- a device number, and whether it passes
   device_passes : ℕ → Bool → Sample
   -- in a map with the one entry 1 to 3: a change of this range adds so many entries
@@ -17,7 +17,7 @@ pub data Sample : Type 0 where
   change_gets : ℕ → ℕ → ℕ → ℕ → Sample
 
 abbrev pub Holds : Sample → Type 0
-Holds (valid_until_lem production last) = last_valid_day production ≡ last
+Holds (valid_until production last) = last_valid_day production ≡ last
 Holds (device_passes number passes) = gs1 number ≡ passes
 Holds (change_adds first last entries) = added first last ≡ entries
 Holds (change_gets slots first last number) = refusal (plain_change Standings slots first last one_entry) ≡ number
@@ -28,10 +28,10 @@ AllHold (s ∷ ss) = Holds s × AllHold ss
 
 abbrev pub samples : List Sample
 samples =
-    valid_until_lem 0 366
-    ∷ valid_until_lem 58 424
-    ∷ valid_until_lem 59 424
-    ∷ valid_until_lem 60 425
+    valid_until 0 366
+    ∷ valid_until 58 424
+    ∷ valid_until 59 424
+    ∷ valid_until 60 425
     ∷ device_passes 17 true
     ∷ device_passes 109 true
     ∷ device_passes 18 false
