@@ -4,7 +4,6 @@ use Rattle.std.proofs.lemmas.List.{take_rest}
 use Rattle.std.proofs.lemmas.Bool.{lt-ltb, le-ltb, cond-true, cond-false}
 use Rattle.order_file.specs.Reading.{read_order}
 use Rattle.inspection.specs.Findings.{as_read, found}
-use Rattle.inspection.specs.declared.findings.Finding.{Finding}
 use Rattle.inspection.specs.declared.findings.Finding.TheVariants.{End}
 
 -- the rest of the file as a part of it
