@@ -1,9 +1,9 @@
 #!/usr/bin/env bash
 # Runs the built program on order files at the edges and compares what it prints.
-# Build it first: rt check goregister
+# Build it first: rt run, in crates/goregister
 set -eu
 cd "$(dirname "$0")/.."
-program=target/bin/goregister
+program=crates/goregister/out/goregister
 failed=0
 
 # expect NAME EXPECTED: standard input is the order file
