@@ -1,12 +1,12 @@
 -- From the exact contracts of lay and change to what they mean at a rising map. Assumes nothing.
-use Rattle.std.proofs.Common.{◌≡◌, ℕ, ◌+◌, ◌-◌, ◌^◌, ◌<◌, ◌≤◌, Bool, true, false, cond, ◌&&◌, ltb, leb, ◌⊎◌, List, length, take, is_some, is_ok, Some, None, Ok, Err, Option, Result, sym, refl, ap, ◌∙◌, subst, inl, inr, ⊎_elim, arith}
+use Rattle.std.proofs.Common.{◌≡◌, ℕ, ◌+◌, ◌-◌, ◌^◌, ◌<◌, ◌≤◌, Bool, true, false, cond, ◌&&◌, ltb, leb, List, length, take, is_some, is_ok, Some, None, Ok, Option, Result, sym, refl, ap, ◌∙◌, subst, ⊎_elim, arith}
 use Rattle.std.proofs.lemmas.Bool.{cases_Bool, ltb-false, leb-true, leb-false, and_parts, or_parts, cond-true, cond-false, false≢true}
 use Rattle.std.specs.Option.{option_map}
 use Rattle.figures.specs.declared.names.Table.{Table}
 use Rattle.range_map.specs.declared.entry.Entry.{Entry}
 use Rattle.range_map.specs.declared.fault.MapFault.{MapFault}
 use Rattle.range_map.specs.Counts.{bit, how_many, total, passes, tally}
-use Rattle.range_map.specs.Plain.{bad, within, Between, Rising, at, payload_at, hit, gap, lay, change, cuts_of}
+use Rattle.range_map.specs.Plain.{bad, within, Between, Rising, at, payload_at, hit, gap, lay, change}
 use Rattle.range_map.specs.Placed.{taken, uncovered, cuts_in, laid, changed}
 use Rattle.range_map.specs.Replies.{lay_reply, change_reply, plain_lay, plain_change}
 use Rattle.range_map.specs.Map.{entry_of, lay_answer, change_answer}

@@ -1,6 +1,6 @@
 -- Sizes of entries against counts of positions, and runs of equal payload against entries. Assumes nothing.
-use Rattle.std.proofs.Common.{◌≡◌, ℕ, zero, suc, ◌+◌, ◌-◌, ◌<◌, ◌≤◌, Bool, true, false, cond, not, ◌&&◌, eqb, ltb, leb, ◌⊎◌, List, [], ◌∷◌, length, Some, None, Option, sym, refl, ap, ◌∙◌, inl, inr, ⊎_elim, arith}
-use Rattle.std.proofs.lemmas.Bool.{cases_lt, cases_Bool, lt-ltb, le-ltb, ltb-true, ltb-false, le-leb, lt-leb, eq-eqb, cond-true, cond-false}
+use Rattle.std.proofs.Common.{◌≡◌, ℕ, zero, suc, ◌+◌, ◌-◌, ◌<◌, ◌≤◌, Bool, true, false, cond, not, ◌&&◌, eqb, List, [], ◌∷◌, length, Some, None, Option, sym, refl, ap, ◌∙◌, ⊎_elim, arith}
+use Rattle.std.proofs.lemmas.Bool.{cases_lt, lt-ltb, le-ltb, le-leb, lt-leb, eq-eqb, cond-true, cond-false}
 use Rattle.std.proofs.lemmas.Bool.Decides.{nat_tests}
 use Rattle.std.specs.Option.{option_map}
 use Rattle.range_map.specs.declared.entry.Entry.{Entry}
@@ -8,7 +8,7 @@ use Rattle.range_map.specs.Plain.{within, Between, at, payload_at, cut, lay}
 use Rattle.range_map.specs.Counts.{bit, sum_below, how_many, size, total, passes, tally, begins, before, runs}
 use Rattle.range_map.specs.Laws.{CutLosesNothing}
 use Rattle.range_map.proofs.Cutting.{at_below, at_cut}
-use Rattle.range_map.proofs.Sums.{sum_none, sum_same, sum_le, sum_add, how_many_split, how_many_same, how_many_none, how_many_range, how_many_one}
+use Rattle.range_map.proofs.Sums.{sum_none, sum_le, sum_add, how_many_split, how_many_none, how_many_range, how_many_one}
 
 bit_most : (b : Bool) → bit b ≤ 1
 bit_most true = omega arith

@@ -1,11 +1,11 @@
 -- What a cut, a change and a lay leave of a map: what each position has, the rising order, the number of entries. Assumes nothing.
-use Rattle.std.proofs.Common.{◌≡◌, ℕ, zero, suc, ◌+◌, ◌-◌, ◌<◌, ◌≤◌, max, Bool, true, false, cond, ◌&&◌, ltb, leb, List, [], ◌∷◌, ◌++◌, map, length, is_some, IfSome, Some, None, Option, sym, refl, ap, ◌∙◌, subst, ⊎_elim, arith}
+use Rattle.std.proofs.Common.{◌≡◌, ℕ, ◌+◌, ◌<◌, ◌≤◌, cond, ◌&&◌, ltb, leb, List, [], ◌∷◌, ◌++◌, map, length, IfSome, Some, None, Option, sym, refl, ap, ◌∙◌, ⊎_elim, arith}
 use lib.ListN.{length-map}
-use Rattle.std.proofs.lemmas.Bool.{cases_lt, cases_Bool, lt-ltb, le-ltb, ltb-true, ltb-false, le-leb, lt-leb, leb-true, leb-false, cond-true, cond-false, cond_both}
+use Rattle.std.proofs.lemmas.Bool.{cases_lt, lt-ltb, le-ltb, ltb-true, ltb-false, lt-leb, leb-true, cond-true, cond-false, cond_both}
 use Rattle.std.proofs.lemmas.Bool.Decides.{nat_tests}
 use Rattle.std.specs.Option.{option_map}
 use Rattle.range_map.specs.declared.entry.Entry.{Entry}
-use Rattle.range_map.specs.Plain.{within, Between, holding, at, payload_at, meeting, hit, gap, below, from, split, cut, cuts, lay, remade, repaid, change, cuts_of}
+use Rattle.range_map.specs.Plain.{within, Between, at, payload_at, meeting, hit, below, from, cut, cuts, lay, remade, repaid, change, cuts_of}
 
 module _ {P : Type 0} where
   -- a cut changes what no position has

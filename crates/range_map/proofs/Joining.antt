@@ -1,12 +1,12 @@
 -- At a rising map the halving stops behind exactly the entries that end before the position,
 -- so that the definitions by index are those by recursion. Assumes nothing.
-use Rattle.std.proofs.Common.{◌≡◌, ℕ, zero, suc, ◌+◌, ◌-◌, ◌/◌, ◌<◌, ◌≤◌, Bool, true, false, cond, ◌&&◌, ltb, leb, ◌⊎◌, List, [], ◌∷◌, ◌++◌, map, length, get_or, take, drop, Some, None, Option, sym, refl, ap, ◌∙◌, subst, inl, inr, ⊎_elim, add-zero, zero-add, arith}
+use Rattle.std.proofs.Common.{◌≡◌, ℕ, zero, suc, ◌+◌, ◌<◌, ◌≤◌, Bool, true, false, cond, ltb, leb, ◌⊎◌, List, [], ◌∷◌, ◌++◌, map, length, get_or, take, drop, sym, refl, ap, ◌∙◌, subst, inl, inr, ⊎_elim, zero-add, arith}
 use lib.ListN.{length-map}
-use Rattle.std.proofs.lemmas.Bool.{cases_lt, cases_Bool, lt-ltb, le-ltb, ltb-true, ltb-false, le-leb, lt-leb, leb-true, leb-false, cond-true, cond-false, cond_both}
+use Rattle.std.proofs.lemmas.Bool.{cases_lt, cases_Bool, lt-ltb, le-ltb, ltb-true, ltb-false, leb-true, leb-false, cond-true, cond-false, cond_both}
 use Rattle.std.proofs.lemmas.Bool.Decides.{nat_tests}
 use Rattle.range_map.specs.declared.entry.Entry.{Entry}
 use Rattle.range_map.specs.Halving.{seek, lasts, place}
-use Rattle.range_map.specs.Plain.{within, Between, at, hit, gap, below, from, split, cut, cuts, lay, repaid, change, cuts_of}
+use Rattle.range_map.specs.Plain.{Between, at, hit, gap, below, from, split, cut, cuts, lay, repaid, change, cuts_of}
 use Rattle.range_map.specs.Placed.{rest, head_at, found, head_hit, taken, uncovered, head_cuts, head_cut, ending, cuts_in, cut_at, paid, head_paid, paid_at, changed, laid}
 use Rattle.range_map.proofs.Seek.{mid}
 use Rattle.range_map.proofs.Cutting.{between_weaker, between_cut}

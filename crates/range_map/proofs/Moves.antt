@@ -1,16 +1,16 @@
 -- What the moves and writes of an edit leave in the slots. Assumes nothing.
-use Rattle.std.proofs.Common.{◌≡◌, ℕ, zero, suc, ◌+◌, ◌-◌, ◌<◌, ◌≤◌, true, false, cond, leb, List, [], ◌∷◌, ◌++◌, length, get_or, take, drop, set, sym, refl, ap, ◌∙◌, ⊎_elim, append_assoc, append-nil, arith, length-drop, length-take, get_or-take}
+use Rattle.std.proofs.Common.{◌≡◌, ℕ, ◌+◌, ◌-◌, ◌<◌, ◌≤◌, cond, leb, List, [], ◌∷◌, ◌++◌, length, get_or, take, drop, set, sym, refl, ap, ◌∙◌, ⊎_elim, append_assoc, append-nil, arith, length-drop, length-take, get_or-take}
 use lib.Seq.{take-set-lt}
 use borrow.Rule.Slice.PartMut.{put_mid}
 use Rattle.std.specs.List.{insert, between}
-use Rattle.std.proofs.lemmas.List.{drop_all, drop_more, take_all, take-take, take_more_set, drop-set-lt, take-append-drop, length-take-le, set-get_or}
+use Rattle.std.proofs.lemmas.List.{drop_all, take_all, take-take, take_more_set, drop-set-lt, take-append-drop, length-take-le, set-get_or}
 use Rattle.std.proofs.lemmas.Slice.{take-put_mid, between_is}
 use Rattle.std.proofs.lemmas.List.Edits.{length-between}
 use Rattle.std.proofs.lemmas.Bool.{cases_Bool, leb-true, leb-false, le-leb, lt-leb, lt-ltb, le-ltb, cond-true, cond-false}
 use Rattle.range_map.specs.declared.entry.Entry.{Entry}
 use Rattle.range_map.specs.Map.{entry_of}
-use Rattle.range_map.specs.Plain.{below, from, split}
-use Rattle.range_map.specs.Placed.{head_cut, head_cuts, cut_at, paid, head_paid, paid_at}
+use Rattle.range_map.specs.Plain.{below, from}
+use Rattle.range_map.specs.Placed.{head_cut, head_cuts, cut_at, paid}
 use Rattle.range_map.proofs.Stops.{drop_read}
 
 module _ {X : Type 0} where

@@ -1,17 +1,15 @@
 -- The two cuts and the payment of a change, put together; the same for lay. Assumes nothing.
-use Rattle.std.proofs.Common.{◌≡◌, ℕ, zero, suc, ◌+◌, ◌-◌, ◌<◌, ◌≤◌, Bool, true, false, cond, ltb, leb, List, [], ◌∷◌, ◌++◌, length, get_or, take, drop, sym, refl, ap, ◌∙◌, subst, append_assoc, append-nil, arith, length-drop, length-take}
+use Rattle.std.proofs.Common.{◌≡◌, ℕ, zero, suc, ◌+◌, ◌-◌, ◌<◌, ◌≤◌, cond, ltb, leb, List, [], ◌∷◌, ◌++◌, length, get_or, take, drop, sym, refl, ap, ◌∙◌, append_assoc, append-nil, arith}
 use borrow.Rule.Slice.PartMut.{put_mid}
 use Rattle.std.specs.List.{insert, between}
-use Rattle.std.proofs.lemmas.List.{drop_all, take_all, take-take, take_more, length-take-le}
+use Rattle.std.proofs.lemmas.List.{drop_all, take_all, take-take, take_more}
 use Rattle.std.proofs.lemmas.Slice.{take-put_mid, between_is}
 use Rattle.std.proofs.lemmas.List.Edits.{length-between}
 use Rattle.std.proofs.lemmas.Bool.{lt-ltb, le-ltb, cond-true, cond-false, cond_both}
 use Rattle.range_map.specs.declared.entry.Entry.{Entry}
 use Rattle.range_map.specs.Halving.{place}
-use Rattle.range_map.specs.Plain.{below, from, split}
-use Rattle.range_map.specs.Placed.{rest, head_cut, head_cuts, cut_at, cuts_in, ending, paid, head_paid, paid_at, changed, laid}
+use Rattle.range_map.specs.Placed.{head_cuts, cut_at, cuts_in, ending, paid, head_paid, paid_at, changed, laid}
 use Rattle.range_map.proofs.Stops.{drop_read}
-use Rattle.range_map.proofs.Moves.{read_in}
 
 module _ {P : Type 0} where
   -- one entry of a slice is cut or not

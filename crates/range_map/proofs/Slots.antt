@@ -1,6 +1,5 @@
 -- Entries by index, and what a map's slots say of its entries in use. Assumes nothing.
-use Rattle.std.proofs.Common.{◌≡◌, ℕ, zero, suc, ◌+◌, ◌-◌, ◌<◌, ◌≤◌, true, false, cond, ◌&&◌, List, [], ◌∷◌, length, get_or, take, set, IfSome, Some, None, Option, sym, refl, ap, ◌∙◌, arith, length-take, MatchOption}
-use Rattle.std.proofs.lemmas.List.{take_all}
+use Rattle.std.proofs.Common.{◌≡◌, ℕ, zero, suc, ◌+◌, ◌<◌, ◌≤◌, cond, List, [], ◌∷◌, length, get_or, take, set, IfSome, Some, None, Option, sym, refl, ap, ◌∙◌, arith, length-take, MatchOption}
 use Rattle.std.proofs.lemmas.Bool.Decides.{nat_tests}
 use Rattle.range_map.specs.declared.entry.Entry.{Entry}
 use Rattle.range_map.specs.Laws.{PlainRepay}

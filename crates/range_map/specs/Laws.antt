@@ -1,5 +1,5 @@
 -- What the definitions mean at a rising map, in a caller's words.
-use Rattle.std.specs.Prelude.{◌≡◌, ℕ, ◌+◌, ◌<◌, ◌≤◌, Bool, true, false, cond, List, length, is_some, IfSome, is_ok, Some, None, Option, Result, MatchOption}
+use Rattle.std.specs.Prelude.{◌≡◌, ℕ, ◌+◌, ◌<◌, ◌≤◌, Bool, true, false, cond, List, length, is_some, IfSome, is_ok, Some, Option, Result, MatchOption}
 use Rattle.figures.specs.declared.names.Table.{Table}
 use Rattle.range_map.specs.declared.entry.Entry.{Entry}
 use Rattle.range_map.specs.declared.fault.MapFault.{MapFault}

@@ -1,6 +1,5 @@
 -- A map with the one entry 1 to 3: how many entries a change adds, and when the slots do not suffice.
 use Rattle.std.specs.Prelude.{◌≡◌, ℕ, ◌-◌, List, [], ◌∷◌, length, Ok, Err, Result}
-use Rattle.figures.specs.declared.names.Table.{Table}
 use Rattle.figures.specs.declared.names.Table.TheVariants.{Standings}
 use Rattle.range_map.specs.declared.entry.Entry.{Entry}
 use Rattle.range_map.specs.declared.fault.MapFault.{MapFault}

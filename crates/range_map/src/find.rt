@@ -1,6 +1,6 @@
 // Where a position lies among entries: a halving, and what stands where it stops.
 // Any entries will do: the contracts say what is answered also where they do not rise.
-ghost use Rattle.std.specs.Prelude.{◌≡◌, ◌+◌, ◌^◌, ◌<◌, ◌≤◌, ltb, length, take, drop, if◌then◌else◌, nat_lt};
+ghost use Rattle.std.specs.Prelude.{◌≡◌, ◌+◌, ◌^◌, ◌<◌, ◌≤◌, length, take, drop, if◌then◌else◌, nat_lt};
 ghost use Rattle.range_map.specs.Halving.{place};
 ghost use Rattle.range_map.specs.Map.{nth};
 ghost use Rattle.range_map.specs.Placed.{found, taken, uncovered, cuts_in, head_cuts};
@@ -125,7 +125,7 @@ fn splits<P: Copy>(entries: &[Entry<P>], i: usize, n: u64) -> usize
 }
 
 fn split_of<P: Copy>(e: Entry<P>, n: u64) -> usize
-    ensures { result ≡ (if ltb e.first n then 1 else 0) }
+    ensures { result ≡ (if nat_lt e.first n then 1 else 0) }
 {
     if e.first < n { 1 } else { 0 }
 }

@@ -55,7 +55,6 @@ impl<'a, P: Payload> RangeMap<'a, P> {
         clip(self.slots, used)
     }
 
-    // The number of entries in use.
     // The index of the first entry that ends at the position or past it, where a walk begins.
     pub fn index_of(&self, position: u64) -> usize
         ensures place { result ≡ place position (in_use self.now) }
@@ -63,6 +62,7 @@ impl<'a, P: Payload> RangeMap<'a, P> {
         find(self.entries(), position)
     }
 
+    // The number of entries in use.
     pub fn count(&self) -> usize
         ensures in_use { result ≡ length (in_use self.now) }
     {

@@ -1,4 +1,4 @@
-use Rattle.std.proofs.Common.{length, sym, ◌∙◌, arith}
+use Rattle.std.proofs.Common.{sym, ◌∙◌, arith}
 use Rattle.range_map.proofs.Moves.{pay_turn, pay_end}
 use Rattle.range_map.proofs.edit.pay.Goals as goal
 

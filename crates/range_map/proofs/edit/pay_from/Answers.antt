@@ -1,4 +1,4 @@
-use Rattle.std.proofs.Common.{take, ◌∙◌, arith, length-take}
+use Rattle.std.proofs.Common.{take, ◌∙◌, arith}
 use Rattle.std.proofs.lemmas.List.{length-take-le}
 use Rattle.range_map.proofs.Moves.{read_in}
 use Rattle.range_map.proofs.Rewrites.{pay_from_none, pay_from_past, pay_from_here, paid_part}

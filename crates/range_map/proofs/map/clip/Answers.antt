@@ -1,4 +1,4 @@
-use Rattle.std.proofs.Common.{take, sym, rules}
+use Rattle.std.proofs.Common.{sym, rules}
 use Rattle.std.proofs.lemmas.List.{take_all}
 use Rattle.range_map.proofs.Counting.{total_tally, runs_entries}
 use Rattle.range_map.proofs.map.clip.Goals as goal

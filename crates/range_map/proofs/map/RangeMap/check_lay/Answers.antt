@@ -1,4 +1,4 @@
-use Rattle.std.proofs.Common.{ap, ◌∙◌}
+use Rattle.std.proofs.Common.{◌∙◌}
 use Rattle.range_map.specs.Map.{in_use, slots_of, lay_answer}
 use Rattle.range_map.proofs.Calls.{lay_answer_lem}
 use Rattle.range_map.proofs.map.RangeMap.check_lay.Goals as goal

@@ -1,4 +1,3 @@
-use Rattle.std.proofs.Common.{refl}
 use Rattle.range_map.specs.Map.{in_use, slots_of, entry_of}
 use Rattle.range_map.proofs.Calls.{laid_there, lay_rising, lay_plain}
 use Rattle.range_map.proofs.map.RangeMap.lay_checked.Goals as goal
