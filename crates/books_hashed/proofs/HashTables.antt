@@ -1,22 +1,22 @@
 -- Hash tables: what the end of a probe, a row put in and a row rewritten mean. Assumes nothing.
-use Rattle.std.proofs.Common.{◌≡◌, ℕ, zero, suc, ◌+◌, ◌-◌, ◌%◌, ◌<◌, ◌≤◌, min, Bool, true, false, eqb, List, [], ◌∷◌, ◌++◌, length, get_or, take, drop, set, Some, None, Option, Ordering, sym, refl, ap, ◌∙◌, subst, ⊎_elim, mod-lt, arith}
+use Rattle.std.proofs.Common.{◌≡◌, ℕ, suc, ◌+◌, ◌%◌, ◌<◌, ◌≤◌, min, true, false, List, [], ◌∷◌, ◌++◌, length, get_or, take, drop, set, Some, None, Option, Ordering, sym, refl, ap, ◌∙◌, subst, ⊎_elim, mod-lt, arith}
 use Rattle.std.specs.Option.{option_map}
 use Rattle.std.proofs.lemmas.List.{get_or_default, get_or_past, get_or-set_same, get_or-set_other, length-set, set_split, set-get_or}
 use Rattle.std.proofs.lemmas.Bool.{cases_lt, cases_eq, cases_Bool, eq-eqb, lt-ltb, le-ltb}
 use Rattle.std.proofs.lemmas.Bool.Decides.{nat_tests}
 use Rattle.figures.specs.Accounts.{TotalOrder}
 use Rattle.figures.specs.Limits.{most_members}
-use Rattle.books.specs.Ledger.{Ledger, Member, matches, present, apart, running_number, totals, total, roomy, newcomer, enrolled, written_in}
+use Rattle.books.specs.Ledger.{matches, present, apart, running_number, totals, roomy, newcomer, enrolled, written_in}
 use Rattle.books_hashed.specs.Hashed.{held, table_capacity, table_ledger, TableSound}
-use Rattle.books_hashed.specs.Probing.{key_at, next_slot, probe_from, probe_for, found_at, lands_at, Settled}
-use Rattle.books.specs.Rows.{member, sieve, ordered, once, Once, with_totals, joining}
+use Rattle.books_hashed.specs.Probing.{key_at, probe_from, probe_for, found_at, lands_at, Settled}
+use Rattle.books.specs.Rows.{member, ordered, once, Once, with_totals, joining}
 use Rattle.books_hashed.specs.declared.probing.Probe.{Probe}
 use Rattle.books_hashed.specs.declared.probing.Probe.TheVariants.{Found, Free, Full}
 use Rattle.books.specs.declared.rows.Row.{Row}
-use Rattle.books.proofs.Found.{number_none, totals_none, found_present, found_number, found_totals, found_changed, found_once, found_apart}
+use Rattle.books.proofs.Found.{found_present, found_number, found_totals, found_changed, found_once, found_apart}
 use Rattle.books.proofs.Ledgers.{matches_self, matches_equal, apart_push}
 use Rattle.books.proofs.Numbering.{ordered_absent, length_members, number_bounds, taken_count, sieve_vacant}
-use Rattle.books_hashed.proofs.Probes.{next_within, found_at_lem, found_holds, free_vacant, free_within, full_taken, probe_same, keeps_found, lands_free, none_some, full_free, full_found, free_found}
+use Rattle.books_hashed.proofs.Probes.{found_at_lem, found_holds, free_vacant, free_within, full_taken, probe_same, keeps_found, lands_free, none_some, full_free, free_found}
 use Rattle.books.proofs.RowEdits.{more_once, more_ordered}
 
 -- a slot that shows a key holds a row with it

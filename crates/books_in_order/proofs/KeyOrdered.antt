@@ -1,17 +1,17 @@
 -- Books in key order: what a place found, a row put in and a row rewritten mean. Assumes nothing.
-use Rattle.std.proofs.Common.{◌≡◌, ℕ, zero, suc, ◌+◌, ◌-◌, ◌<◌, ◌≤◌, min, Bool, true, false, List, [], ◌∷◌, ◌++◌, length, get_or, take, drop, set, Some, Ok, Err, Ordering, Less, Equal, Greater, sym, refl, ap, ◌∙◌, subst, ⊎_elim, arith}
+use Rattle.std.proofs.Common.{◌≡◌, ℕ, zero, suc, ◌+◌, ◌-◌, ◌<◌, ◌≤◌, min, true, false, List, [], ◌∷◌, ◌++◌, length, get_or, take, drop, set, Some, Ok, Err, Ordering, Less, sym, refl, ap, ◌∙◌, subst, ⊎_elim, arith}
 use Rattle.std.specs.List.{insert}
 use Rattle.std.proofs.lemmas.List.Edits.{length-insert, get_or-insert_below, get_or-insert_at, get_or-insert_above}
-use Rattle.std.proofs.lemmas.List.{take-append-drop, length-take-le, get_or-take, get_or_default, get_or-set_same, get_or-set_other, length-set, take-set-le}
+use Rattle.std.proofs.lemmas.List.{take-append-drop, length-take-le, get_or-take, get_or_default, get_or-set_same, get_or-set_other, length-set}
 use Rattle.std.proofs.lemmas.Bool.{cases_lt, cases_eq, lt-ltb, le-ltb}
 use Rattle.figures.specs.Accounts.{TotalOrder}
 use Rattle.figures.specs.Limits.{most_members}
-use Rattle.books.specs.Ledger.{Ledger, Member, is_equal, matches, present, apart, running_number, totals, total, roomy, newcomer, enrolled, written_in}
+use Rattle.books.specs.Ledger.{is_equal, matches, present, apart, running_number, totals, roomy, newcomer, enrolled, written_in}
 use Rattle.books_in_order.specs.InOrder.{keyed_capacity, keyed_ledger, KeyedSound}
 use Rattle.books_in_order.specs.KeyOrder.{rises, Sought}
 use Rattle.books.specs.Rows.{member, ordered, Once, with_totals, joining}
 use Rattle.books.specs.declared.rows.Row.{Row}
-use Rattle.books.proofs.Found.{number_none, totals_none, found_present, found_number, found_totals, found_changed, found_once, found_apart}
+use Rattle.books.proofs.Found.{found_present, found_number, found_totals, found_changed, found_once, found_apart}
 use Rattle.books.proofs.Ledgers.{apart_push}
 use Rattle.books.proofs.Numbering.{ordered_absent, length_members}
 use Rattle.books_in_order.proofs.Rises.{Rising, from_rises, to_rises}

@@ -1,9 +1,9 @@
 -- Where a key is, or belongs, among rows in key order. Assumes nothing.
-use Rattle.std.proofs.Common.{◌≡◌, ℕ, ◌+◌, ◌-◌, ◌<◌, ◌≤◌, Bool, true, false, List, [], ◌∷◌, ◌++◌, length, get_or, take, drop, set, Ok, Err, Ordering, Less, Equal, Greater, sym, refl, ap, ◌∙◌, subst, ⊎_elim, arith}
+use Rattle.std.proofs.Common.{◌≡◌, ℕ, ◌<◌, ◌≤◌, true, List, length, get_or, Ok, Err, Ordering, Less, Equal, Greater, sym, refl, ap, ◌∙◌, ⊎_elim, arith}
 use Rattle.std.proofs.lemmas.List.{get_or_default}
 use Rattle.std.proofs.lemmas.Bool.{cases_eq}
 use Rattle.figures.specs.Accounts.{TotalOrder}
-use Rattle.books.specs.Ledger.{is_equal, matches}
+use Rattle.books.specs.Ledger.{is_equal}
 use Rattle.books_in_order.specs.KeyOrder.{rises, Splits, Sought}
 use Rattle.books_in_order.proofs.Rises.{Rising, from_rises}
 use Rattle.books.specs.declared.rows.Row.{Row}

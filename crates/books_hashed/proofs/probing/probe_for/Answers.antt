@@ -1,4 +1,4 @@
-use Rattle.std.proofs.Common.{◌≡◌, ◌-◌, ◌%◌, length, refl, ap, ◌∙◌, mod-lt, arith}
+use Rattle.std.proofs.Common.{◌≡◌, ◌-◌, ◌%◌, length, ap, ◌∙◌, mod-lt, arith}
 use Rattle.books.specs.Ledger.{matches}
 use Rattle.books_hashed.specs.Probing.{key_at, probe_from}
 use Rattle.books_hashed.proofs.ProbeTurns.{ends_here, goes_on, done_full}

@@ -1,4 +1,4 @@
-use Rattle.std.proofs.Common.{◌≡◌, ℕ, ◌-◌, true, take, sym, subst, arith}
+use Rattle.std.proofs.Common.{◌≡◌, ℕ, ◌-◌, true, take, subst, arith}
 use Rattle.books_in_order.specs.KeyOrder.{rises, Sought}
 use Rattle.books_in_order.proofs.key_order.seek.Goals as goal
 

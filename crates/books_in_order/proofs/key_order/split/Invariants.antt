@@ -1,4 +1,4 @@
-use Rattle.std.proofs.Common.{◌≡◌, ℕ, ◌-◌, ◌<◌, ◌≤◌, length, get_or, Less}
+use Rattle.std.proofs.Common.{◌-◌}
 use Rattle.books_in_order.proofs.Halving.{Between}
 use Rattle.books_in_order.proofs.key_order.split.Given as goal
 

@@ -6,4 +6,4 @@ use Rattle.books_hashed.proofs.accounts_hashed.AccountsHashed.new.Goals as goal
 pub invariant_of-result : goal.invariant_of-result
 invariant_of-result c =
     let fresh = fresh_table account_order account_spread c.new.result.slots.now c.new.result.used c.new.ensures.none_used c.new.ensures.free in
-    (fresh.within, (fresh.each, (fresh.settled, (fresh.alone, tt))))
+    record { within = fresh.within; each = fresh.each; settled = fresh.settled; alone = fresh.alone }

@@ -1,4 +1,4 @@
-use Rattle.std.proofs.Common.{take, sym, refl, ◌∙◌}
+use Rattle.std.proofs.Common.{take, refl, ◌∙◌}
 use Rattle.std.proofs.lemmas.Bool.{true≢false}
 use Rattle.books_in_order.specs.InOrder.{in_order_ledger}
 use Rattle.books.specs.Ledger.{matches}
