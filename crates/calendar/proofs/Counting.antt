@@ -1,8 +1,7 @@
 -- Day numbers and dates, month by month. Assumes nothing.
-use Rattle.std.proofs.Common.{◌≡◌, ℕ, zero, suc, ◌+◌, ◌-◌, ◌*◌, ◌/◌, ◌%◌, ◌<◌, ◌≤◌, min, Bool, true, false, cond, ◌||◌, eqb, ltb, sym, refl, ap, ◌∙◌, subst, ⊎_elim, add-zero, arith}
+use Rattle.std.proofs.Common.{◌≡◌, ℕ, zero, suc, ◌+◌, ◌-◌, ◌*◌, ◌/◌, ◌%◌, ◌<◌, ◌≤◌, min, cond, ◌||◌, eqb, sym, refl, ap, ◌∙◌, ⊎_elim, add-zero, arith}
 use Rattle.std.proofs.lemmas.Bool.{lt-ltb, le-ltb, cases_lt, cond-true, cond-false, cond_both}
 use Rattle.calendar.specs.Dates.{leap, month_length, date, day_after, date_of, month_start, day_number, twelve_months_on, last_valid_day}
-use Rattle.calendar.specs.declared.dates.Date.{Date}
 
 -- month k, counted from January 2000
 abbrev pub year_of : ℕ → ℕ

@@ -1,16 +1,15 @@
 -- What the checks of a call, all passed, say of the reckoning. Assumes nothing.
-use Rattle.std.proofs.Common.{◌≡◌, ℕ, zero, suc, ◌+◌, ◌-◌, ◌^◌, ◌<◌, ◌≤◌, min, Bool, true, false, cond, not, ◌&&◌, ◌||◌, eqb, ltb, leb, List, [], ◌∷◌, map, length, is_some, Some, None, Option, sym, refl, ap, ◌∙◌, subst, ⊎_elim, arith}
+use Rattle.std.proofs.Common.{◌≡◌, ℕ, ◌-◌, ◌<◌, ◌≤◌, Bool, true, false, cond, not, ◌&&◌, ◌||◌, ltb, leb, List, [], ◌∷◌, map, length, is_some, Some, None, Option, sym, refl, ap, ◌∙◌, subst, arith}
 use Rattle.std.proofs.lemmas.Bool.{both_ways, cases_Bool, cases_eq, cases_lt, ltb-true, ltb-false, leb-true, leb-false, eq-eqb, ne_eqb, not-true, and_parts, and_from, cond-true, cond-false, cond_both}
 use Rattle.std.specs.Option.{option_map}
-use Rattle.figures.specs.Accounts.{account_order}
 use Rattle.figures.specs.Gs1.{gs1}
-use Rattle.figures.specs.Limits.{last_certificate_number, last_working_day, most_energy, most_total}
+use Rattle.figures.specs.Limits.{last_certificate_number, last_working_day, most_energy}
 use Rattle.figures.specs.declared.accounts.Account.{Account}
 use Rattle.figures.proofs.Orders.{account_order_total}
-use Rattle.books.specs.Ledger.{Member, Ledger, matches, present}
+use Rattle.books.specs.Ledger.{Member, present}
 use Rattle.books.proofs.Ledgers.{matches_equal}
-use Rattle.order_file.specs.Checks.{operand, lawful_account, bad_declare, bad_offer, bad_accept, bad_recall, bad_cancel}
-use Rattle.order_file.specs.Operands.{numbers_lawful, days_lawful, energy_lawful, year_lawful, beneficiary_lawful}
+use Rattle.order_file.specs.Checks.{operand, lawful_account, bad_declare, bad_offer, bad_cancel}
+use Rattle.order_file.specs.Operands.{numbers_lawful, days_lawful, energy_lawful}
 use Rattle.order_file.specs.declared.orders.AcceptOffer.{AcceptOffer}
 use Rattle.order_file.specs.declared.orders.Cancel.{Cancel}
 use Rattle.order_file.specs.declared.orders.Declare.{Declare}
@@ -22,14 +21,14 @@ use Rattle.order_file.specs.declared.orders.RegisterDevice.{RegisterDevice}
 use Rattle.range_map.specs.Counts.{passes}
 use Rattle.range_map.specs.Map.{nth}
 use Rattle.range_map.specs.Placed.{taken}
-use Rattle.range_map.specs.Plain.{at, payload_at}
+use Rattle.range_map.specs.Plain.{at}
 use Rattle.range_map.specs.declared.entry.Entry.{Entry}
 use Rattle.range_map.proofs.Cutting.{covers}
-use Rattle.register.specs.Checks.{bad_at, account_known, device_known, opening_checks, registration_checks, declaration_checks, wanted, issued_so_far, first_issued, last_issued, meets, if_issuing, holds, has_row, offer_checks, offer_numbered, offer_known, by_party, still_open_check, offer_open, in_term, acceptance_checks, recall_checks, cancellation_checks, day_opening_checks}
+use Rattle.register.specs.Checks.{bad_at, account_known, opening_checks, registration_checks, declaration_checks, wanted, first_issued, last_issued, meets, if_issuing, holds, offer_checks, offer_numbered, offer_known, by_party, still_open_check, offer_open, in_term, acceptance_checks, recall_checks, cancellation_checks, day_opening_checks}
 use Rattle.register.specs.Faults.{unless, first_fault}
-use Rattle.register.specs.Holdings.{held_by, offered_under, unheld, under_offer, first_overdue, entry_lapsed}
+use Rattle.register.specs.Holdings.{held_by, offered_under, unheld, under_offer, first_overdue}
 use Rattle.register.specs.State.{State, is_account, is_device, account_from, has_account, has_device, room}
-use Rattle.register.specs.Terms.{overdue, lapsed, valid_until}
+use Rattle.register.specs.Terms.{lapsed, valid_until}
 use Rattle.register.specs.declared.faults.Fault.{Fault}
 use Rattle.register.specs.declared.faults.Fault.TheVariants.{Operand, Book, Map, DateNotLater, NotYetProduced, PastTerm, NumbersExhausted, Full, NotHeld, OfferedToItself, WrongParty}
 use Rattle.range_map.specs.declared.fault.MapFault.TheVariants as range
@@ -41,8 +40,8 @@ use Rattle.register.specs.declared.rows.OfferState.{OfferState}
 use Rattle.register.specs.declared.rows.OfferState.TheVariants.{Open, Accepted, Recalled}
 use Rattle.register.specs.declared.rows.Standing.{Standing}
 use Rattle.register.specs.declared.rows.Standing.TheVariants.{Held, Offered, Cancelled, Expired}
-use Rattle.reckoning.specs.Allowed.{any, opened, registered, HoldsAll, Declares, Offers, Answers, Accepts, Cancels}
-use Rattle.reckoning.specs.Reckoned.{History, today, accounts_opened, devices_registered, issued_by, issued, origin, offers_made, offer, status}
+use Rattle.reckoning.specs.Allowed.{any, opened, registered, HoldsAll, Declares, Offers, Answers, Cancels}
+use Rattle.reckoning.specs.Reckoned.{History, today, origin, status}
 use Rattle.reckoning.proofs.Entries.{unheld_none, none_overdue, each_at}
 use Rattle.reckoning.proofs.EnergiesKept.{wanted_is}
 use Rattle.reckoning.proofs.Invariant.{Sound, Maps, Rows, Energies}

@@ -1,15 +1,13 @@
 -- Every booked call keeps the devices' totals in agreement with their declared watt-hours. Assumes nothing.
-use Rattle.std.proofs.Common.{◌≡◌, ℕ, ◌+◌, ◌-◌, ◌*◌, ◌/◌, ◌%◌, ◌<◌, ◌≤◌, min, Bool, true, false, cond, List, [], ◌∷◌, sym, refl, ap, ◌∙◌, subst, ⊎_elim, arith}
+use Rattle.std.proofs.Common.{◌≡◌, ℕ, ◌+◌, ◌/◌, ◌%◌, ◌≤◌, true, false, cond, ◌∷◌, sym, ap, ◌∙◌, subst, ⊎_elim, arith}
 use Rattle.std.proofs.lemmas.Bool.{cases_Bool, cond-true, cond-false}
-use Rattle.figures.specs.Limits.{certificate_size, last_certificate_number, most_total}
-use Rattle.books.specs.Keys.{device_order}
-use Rattle.books.specs.Ledger.{matches, present, total, written_in}
+use Rattle.figures.specs.Limits.{certificate_size, last_certificate_number}
 use Rattle.books.proofs.Ledgers.{matches_self, tests_differ}
 use Rattle.books.specs.Numbers.{device_order_total}
 use Rattle.order_file.specs.declared.orders.Declare.{Declare}
 use Rattle.order_file.specs.declared.orders.RegisterDevice.{RegisterDevice}
 use Rattle.register.specs.Bookings.{registration, declaration}
-use Rattle.register.specs.Checks.{device_totals, gathered, wanted, left}
+use Rattle.register.specs.Checks.{device_totals, wanted, left}
 use Rattle.register.specs.State.{State, is_device, has_device}
 use Rattle.register.specs.declared.calls.Call.TheVariants as call
 use Rattle.reckoning.specs.Agreement.{totals_of}

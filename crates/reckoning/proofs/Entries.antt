@@ -1,20 +1,20 @@
 -- What the walks over entries say of each number, and what keeps every number of an entry at one origin. Assumes nothing.
-use Rattle.std.proofs.Common.{◌≡◌, ℕ, ◌+◌, ◌-◌, ◌^◌, ◌<◌, ◌≤◌, Bool, true, false, cond, not, ◌&&◌, ◌||◌, ltb, leb, List, [], ◌∷◌, map, drop, is_some, Some, None, Option, sym, refl, ap, ◌∙◌, subst, ⊎_elim, arith, MatchOption}
+use Rattle.std.proofs.Common.{◌≡◌, ℕ, ◌+◌, ◌^◌, ◌<◌, ◌≤◌, Bool, true, ltb, leb, List, [], ◌∷◌, map, drop, Some, None, Option, sym, refl, ap, ◌∙◌, subst, ⊎_elim, arith}
 use Rattle.std.proofs.lemmas.Bool.{both_ways, cases_lt, cases_Bool, lt-ltb, le-ltb, ltb-true, ltb-false, le-leb, leb-true, cond-true, cond-false, cond_both}
 use Rattle.std.proofs.lemmas.Bool.Decides.{nat_tests}
 use Rattle.std.specs.Option.{option_map}
 use Rattle.figures.specs.declared.accounts.Account.{Account}
 use Rattle.range_map.specs.Counts.{passes}
-use Rattle.range_map.specs.Placed.{rest, found, payload_found}
-use Rattle.range_map.specs.Plain.{Between, Rising, holding, at, payload_at, below, from, split, cut, hit, lay, remade, repaid, change}
+use Rattle.range_map.specs.Placed.{rest, payload_found}
+use Rattle.range_map.specs.Plain.{Between, Rising, at, payload_at, below, from, cut, lay, remade}
 use Rattle.range_map.specs.declared.entry.Entry.{Entry}
 use Rattle.range_map.proofs.Cutting.{at_below}
-use Rattle.range_map.proofs.Joining.{found_is, by_skipping, place_skipped, skipped}
+use Rattle.range_map.proofs.Joining.{found_is, by_skipping, place_skipped}
 use Rattle.register.specs.Holdings.{held_by, gap_by, unheld, under_offer, first_overdue, or_next}
 use Rattle.register.specs.Terms.{overdue}
 use Rattle.register.specs.declared.rows.Origin.{Origin}
 use Rattle.register.specs.declared.rows.Standing.{Standing}
-use Rattle.reckoning.proofs.Invariant.{Each, Even}
+use Rattle.reckoning.proofs.Invariant.{Each}
 
 module _ {P : Type 0} where
   -- what the map answers is what the position has

@@ -1,7 +1,6 @@
 -- Every booked call keeps the maps in agreement with the reckoning. Assumes nothing.
-use Rattle.std.proofs.Common.{◌≡◌, ℕ, suc, ◌+◌, ◌-◌, ◌^◌, ◌<◌, ◌≤◌, Bool, true, false, cond, not, ◌&&◌, ◌||◌, ltb, leb, List, [], ◌∷◌, map, is_some, Some, None, Option, sym, refl, ap, ◌∙◌, subst, ⊎_elim, add-one, arith}
-use Rattle.std.proofs.lemmas.Bool.{both_ways, cases_Bool, cases_lt, lt-ltb, le-ltb, ltb-true, ltb-false, le-leb, lt-leb, leb-true, leb-false, and_parts, and_from, cond-true, cond-false, cond_both}
-use Rattle.std.proofs.lemmas.Bool.Decides.{nat_tests}
+use Rattle.std.proofs.Common.{◌≡◌, ℕ, suc, ◌+◌, ◌^◌, ◌<◌, ◌≤◌, Bool, true, false, cond, ◌&&◌, ltb, leb, List, ◌∷◌, map, is_some, Some, None, Option, sym, refl, ap, ◌∙◌, subst, ⊎_elim, arith}
+use Rattle.std.proofs.lemmas.Bool.{both_ways, cases_Bool, lt-ltb, le-ltb, ltb-true, ltb-false, le-leb, leb-true, and_parts, and_from, cond-true, cond-false, cond_both}
 use Rattle.std.specs.Option.{option_map}
 use Rattle.figures.specs.Limits.{last_certificate_number}
 use Rattle.figures.specs.declared.accounts.Account.{Account}
@@ -12,8 +11,8 @@ use Rattle.order_file.specs.declared.orders.MakeOffer.{MakeOffer}
 use Rattle.order_file.specs.declared.orders.NewDay.{NewDay}
 use Rattle.order_file.specs.declared.orders.RecallOffer.{RecallOffer}
 use Rattle.range_map.specs.Counts.{passes}
-use Rattle.range_map.specs.Placed.{taken, laid, changed, payload_found}
-use Rattle.range_map.specs.Plain.{within, Between, Rising, at, payload_at, below, from, cut, hit, lay, remade, repaid, change}
+use Rattle.range_map.specs.Placed.{taken, laid, changed}
+use Rattle.range_map.specs.Plain.{within, Rising, at, payload_at, below, from, cut, hit, remade, change}
 use Rattle.range_map.specs.declared.entry.Entry.{Entry}
 use Rattle.range_map.proofs.Cutting.{at_remade, between_remade, between_change, covers, at_change, at_lay, between_lay}
 use Rattle.range_map.proofs.Joining.{taken_is, laid_is_lay, changed_is_change}
@@ -27,10 +26,10 @@ use Rattle.register.specs.declared.rows.Offer.{Offer}
 use Rattle.register.specs.declared.rows.Origin.{Origin}
 use Rattle.register.specs.declared.rows.Standing.{Standing}
 use Rattle.register.specs.declared.rows.Standing.TheVariants.{Held, Offered, Cancelled, Expired}
-use Rattle.reckoning.specs.Allowed.{HoldsAll, Declares}
+use Rattle.reckoning.specs.Allowed.{HoldsAll}
 use Rattle.reckoning.specs.Reckoned.{History, today, issued_by, issued, is_next, origin_of, origin, offers_made, offer, cancellations_made, held_by_party, status}
 use Rattle.reckoning.proofs.Entries.{found_payload, each_at, each_from, each_both, each_remade, each_cut, each_lay, each_below}
-use Rattle.reckoning.proofs.Invariant.{Each, Even, Sound, Maps, Rows}
+use Rattle.reckoning.proofs.Invariant.{Even, Sound, Maps, Rows}
 
 -- a stretch within an even one is even
 abbrev EvenAt : (ℕ → Option Origin) → Entry Standing → Type 0

@@ -1,10 +1,10 @@
 -- A member's totals after a member joins and after totals change. Assumes nothing.
-use Rattle.std.proofs.Common.{◌≡◌, ℕ, ◌+◌, ◌-◌, ◌≤◌, min, Bool, true, false, cond, List, is_some, Some, None, Option, unwrap_or, sym, refl, ap, ◌∙◌, ⊎_elim, arith}
-use Rattle.std.proofs.lemmas.Bool.{both_ways, cases_Bool, cond-true, cond-false, cond_both}
+use Rattle.std.proofs.Common.{◌≡◌, ℕ, ◌+◌, ◌≤◌, Bool, true, false, cond, is_some, Some, None, Option, unwrap_or, sym, refl, ap, ◌∙◌, ⊎_elim, arith}
+use Rattle.std.proofs.lemmas.Bool.{both_ways, cases_Bool, cond-true, cond-false}
 use Rattle.std.specs.Option.{option_map}
 use Rattle.figures.specs.Limits.{most_total}
 use Rattle.books.specs.Changes.{moved, posted}
-use Rattle.books.specs.Ledger.{Member, Ledger, present, totals, total, newcomer, enrolled, changed_in}
+use Rattle.books.specs.Ledger.{Ledger, present, totals, total, newcomer, enrolled, changed_in}
 use Rattle.books.specs.declared.changes.Change.{Change}
 use Rattle.books.specs.declared.changes.Change.TheVariants.{Up, Down}
 use Rattle.books.proofs.Ledgers.{totals_changed, totals_changed_other, totals_present, totals_push}

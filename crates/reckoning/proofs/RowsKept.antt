@@ -1,13 +1,11 @@
 -- Every booked call keeps the day, the records and the members in agreement with the reckoning. Assumes nothing.
-use Rattle.std.proofs.Common.{◌≡◌, ℕ, zero, suc, ◌+◌, ◌-◌, ◌<◌, ◌≤◌, min, Bool, true, false, cond, not, ◌&&◌, ◌||◌, eqb, ltb, leb, List, [], ◌∷◌, ◌++◌, map, length, set, Some, None, Option, sym, refl, ap, ◌∙◌, subst, ⊎_elim, arith}
+use Rattle.std.proofs.Common.{◌≡◌, ℕ, zero, suc, ◌+◌, ◌-◌, ◌<◌, ◌≤◌, Bool, ltb, List, [], ◌∷◌, ◌++◌, map, length, set, Some, sym, refl, ap, ◌∙◌, ⊎_elim, arith}
 use Rattle.std.proofs.lemmas.List.{map_push}
-use Rattle.std.proofs.lemmas.Bool.{cases_Bool, cases_eq, eq-eqb, ne_eqb, ltb-true, ltb-false, cond-true, cond-false, cond_both}
-use Rattle.std.proofs.lemmas.Bool.Decides.{nat_tests}
+use Rattle.std.proofs.lemmas.Bool.{cases_eq, eq-eqb, ne_eqb, ltb-false, cond-true, cond-false, cond_both}
 use Rattle.std.specs.Option.{option_map}
-use Rattle.figures.specs.Limits.{last_certificate_number}
 use Rattle.figures.specs.declared.accounts.Account.{Account}
 use Rattle.books.specs.Changes.{moved, posted}
-use Rattle.books.specs.Ledger.{Member, Ledger, present, newcomer, changed}
+use Rattle.books.specs.Ledger.{Ledger, newcomer}
 use Rattle.books.specs.declared.changes.Change.{Change}
 use Rattle.books.specs.declared.changes.Change.TheVariants.{Up, Down}
 use Rattle.books.proofs.Ledgers.{keys_changed}

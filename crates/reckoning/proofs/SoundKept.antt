@@ -1,9 +1,9 @@
 -- Every permitted call keeps the reckoning sound. Assumes nothing.
-use Rattle.std.proofs.Common.{◌≡◌, ℕ, suc, ◌+◌, ◌-◌, ◌/◌, ◌<◌, ◌≤◌, Bool, true, false, cond, not, ◌&&◌, ◌||◌, eqb, ltb, leb, ◌⊎◌, List, [], ◌∷◌, is_some, Some, None, Option, sym, refl, ap, ◌∙◌, subst, inl, inr, ⊎_elim, arith}
-use Rattle.std.proofs.lemmas.Bool.{both_ways, cases_Bool, cases_eq, cases_lt, lt-ltb, le-ltb, ltb-true, ltb-false, le-leb, lt-leb, leb-true, leb-false, eq-eqb, ne_eqb, eqb-true, eqb-false, and_parts, and_from, and_left, and_right, cond-true, cond-false, cond_both}
+use Rattle.std.proofs.Common.{◌≡◌, ℕ, ◌+◌, ◌/◌, ◌<◌, ◌≤◌, Bool, true, false, cond, ◌&&◌, eqb, leb, ◌⊎◌, [], ◌∷◌, is_some, Some, None, Option, sym, refl, ap, ◌∙◌, subst, inl, inr, ⊎_elim, arith}
+use Rattle.std.proofs.lemmas.Bool.{both_ways, cases_Bool, cases_eq, cases_lt, lt-ltb, le-ltb, le-leb, lt-leb, leb-true, eq-eqb, ne_eqb, eqb-true, and_parts, and_from, and_left, and_right, cond-true, cond-false, cond_both}
 use Rattle.std.proofs.lemmas.Bool.Decides.{nat_tests}
 use Rattle.std.specs.Option.{option_map}
-use Rattle.figures.specs.Limits.{certificate_size, last_certificate_number}
+use Rattle.figures.specs.Limits.{certificate_size}
 use Rattle.figures.specs.declared.accounts.Account.{Account}
 use Rattle.order_file.specs.declared.orders.AcceptOffer.{AcceptOffer}
 use Rattle.order_file.specs.declared.orders.Cancel.{Cancel}
@@ -21,12 +21,11 @@ use Rattle.register.specs.declared.calls.Call.{Call}
 use Rattle.register.specs.declared.calls.Call.TheVariants as call
 use Rattle.register.specs.declared.rows.Offer.{Offer}
 use Rattle.register.specs.declared.rows.OfferState.{OfferState}
-use Rattle.register.specs.declared.rows.OfferState.TheVariants.{Open, Accepted, Recalled}
-use Rattle.register.specs.declared.rows.Origin.{Origin}
+use Rattle.register.specs.declared.rows.OfferState.TheVariants.{Accepted, Recalled}
 use Rattle.register.specs.declared.rows.Standing.{Standing}
 use Rattle.register.specs.declared.rows.Standing.TheVariants.{Held, Offered, Cancelled, Expired}
 use Rattle.reckoning.specs.Allowed.{HoldsAll, Declares, Offers, Answers, Accepts, Cancels, Permitted}
-use Rattle.reckoning.specs.Reckoned.{History, today, declared, due_to, issued_by, issued, is_next, origin_of, origin, offers_made, closes, offer, cancellations_made, cancellation, held_by_party, status, is_open, open_names, cancel_names}
+use Rattle.reckoning.specs.Reckoned.{History, today, declared, due_to, issued_by, issued, is_next, origin, offers_made, closes, offer, cancellations_made, cancellation, held_by_party, status, is_open, open_names, cancel_names}
 use Rattle.reckoning.proofs.Invariant.{Sound}
 
 -- which way a test went

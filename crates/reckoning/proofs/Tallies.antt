@@ -1,13 +1,12 @@
 -- Counting numbers, and the sizes of entries as counts of numbers. Assumes nothing.
-use Rattle.std.proofs.Common.{◌≡◌, ℕ, zero, suc, ◌+◌, ◌-◌, ◌^◌, ◌<◌, ◌≤◌, Bool, true, false, cond, not, ◌&&◌, ltb, leb, List, [], ◌∷◌, map, Some, None, Option, sym, refl, ap, ◌∙◌, subst, ⊎_elim, arith}
-use Rattle.std.proofs.lemmas.Bool.{cases_Bool, cases_lt, lt-ltb, le-ltb, cond-true, cond-false, cond_both}
+use Rattle.std.proofs.Common.{◌≡◌, ℕ, zero, suc, ◌+◌, ◌^◌, ◌<◌, ◌≤◌, Bool, true, false, cond, List, [], ◌∷◌, map, Some, None, Option, sym, refl, ap, ◌∙◌, subst, arith}
 use Rattle.std.proofs.lemmas.Bool.Decides.{nat_tests}
 use Rattle.std.specs.Option.{option_map}
 use Rattle.range_map.specs.Counts.{bit, sum_below, how_many, size, total, passes, tally}
-use Rattle.range_map.specs.Plain.{Between, Rising, holding, at, payload_at}
+use Rattle.range_map.specs.Plain.{Between, Rising, at, payload_at}
 use Rattle.range_map.specs.declared.entry.Entry.{Entry}
 use Rattle.range_map.proofs.Counting.{total_tally}
-use Rattle.range_map.proofs.Sums.{sum_same, how_many_same}
+use Rattle.range_map.proofs.Sums.{how_many_same}
 use Rattle.register.specs.Holdings.{sizes_of}
 use Rattle.reckoning.proofs.Entries.{each_from, each_below}
 use Rattle.reckoning.proofs.Invariant.{Each}

@@ -1,14 +1,11 @@
 -- The theorem: from a new register, whatever calls are made, the tables agree with what is reckoned from the booked ones.
 -- Assumes nothing.
-use Rattle.std.proofs.Common.{◌≡◌, ℕ, zero, suc, ◌+◌, ◌-◌, ◌*◌, ◌/◌, ◌%◌, ◌^◌, ◌<◌, ◌≤◌, Bool, true, false, cond, not, ◌&&◌, ◌||◌, eqb, ltb, leb, List, [], ◌∷◌, map, is_some, Some, None, Option, unwrap_or, sym, refl, ap, ◌∙◌, subst, ⊎_elim, arith}
-use Rattle.std.proofs.lemmas.Bool.{both_ways, cases_Bool, cases_eq, cases_lt, and_parts, and_left, cond-true, cond-false, cond_both}
-use Rattle.std.specs.Option.{option_map}
-use Rattle.figures.specs.Limits.{certificate_size}
+use Rattle.std.proofs.Common.{◌≡◌, ℕ, zero, suc, ◌+◌, ◌<◌, ◌≤◌, Bool, true, false, cond, ◌&&◌, List, [], ◌∷◌, map, Some, None, Option, unwrap_or, sym, refl, ap, ◌∙◌, subst, ⊎_elim, arith}
+use Rattle.std.proofs.lemmas.Bool.{both_ways, cases_Bool, cases_eq, cases_lt, and_left}
 use Rattle.figures.specs.declared.accounts.Account.{Account}
-use Rattle.books.specs.Ledger.{Ledger, totals}
-use Rattle.range_map.specs.Counts.{bit, sum_below, how_many, passes}
+use Rattle.books.specs.Ledger.{totals}
+use Rattle.range_map.specs.Counts.{bit, sum_below, how_many}
 use Rattle.range_map.specs.Plain.{within, Rising, at, payload_at}
-use Rattle.range_map.specs.declared.entry.Entry.{Entry}
 use Rattle.range_map.proofs.Sums.{sum_none, sum_same, sum_add, how_many_same, how_many_none, how_many_range}
 use Rattle.register.specs.Bookings.{of_offer, acceptance_of, recall_of}
 use Rattle.register.specs.Runs.{booking_of, in_turn, fault_of, settled, step, is_booked, run, history_from, New}
@@ -17,11 +14,9 @@ use Rattle.register.specs.declared.calls.Call.{Call}
 use Rattle.register.specs.declared.calls.Call.TheVariants as call
 use Rattle.register.specs.declared.faults.Fault.{Fault}
 use Rattle.register.specs.declared.rows.Offer.{Offer}
-use Rattle.register.specs.declared.rows.OfferState.{OfferState}
-use Rattle.register.specs.declared.rows.OfferState.TheVariants.{Open, Accepted, Recalled}
 use Rattle.register.specs.declared.rows.Standing.{Standing}
 use Rattle.register.specs.declared.rows.Standing.TheVariants.{Held, Offered, Cancelled, Expired}
-use Rattle.reckoning.specs.Agreement.{totals_of, Agrees}
+use Rattle.reckoning.specs.Agreement.{Agrees}
 use Rattle.reckoning.specs.Allowed.{Accepts, Permitted, Lawful}
 use Rattle.reckoning.specs.Reckoned.{History, today, accounts_opened, devices_registered, declared, issued, origin, offers_made, offer, cancellations_made, cancellation, status, held_count, is_open, open_names, open_size, offered_count, day_open}
 use Rattle.reckoning.proofs.Checked.{declaration_passed, offer_passed, cancellation_passed, recall_passed, acceptance_passed, opening_passed, registration_passed, day_opening_passed}

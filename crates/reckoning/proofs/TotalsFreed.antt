@@ -1,51 +1,39 @@
 -- Acceptances and recalls keep the accounts' totals at what they count. Assumes nothing.
-use Rattle.std.proofs.Common.{◌≡◌, ℕ, suc, ◌+◌, ◌-◌, ◌<◌, ◌≤◌, min, Bool, true, false, cond, not, ◌&&◌, ◌||◌, eqb, ltb, leb, List, [], ◌∷◌, map, is_some, Some, None, Option, sym, refl, ap, ◌∙◌, subst, ⊎_elim, arith}
-use Rattle.std.proofs.lemmas.Bool.{both_ways, cases_Bool, cases_eq, cases_lt, lt-ltb, le-ltb, ltb-true, ltb-false, le-leb, leb-true, eq-eqb, ne_eqb, and_parts, and_from, and_left, and_right, cond-true, cond-false, cond_both}
+use Rattle.std.proofs.Common.{◌≡◌, ℕ, ◌+◌, ◌≤◌, Bool, true, false, cond, not, ◌&&◌, List, ◌∷◌, Some, None, Option, sym, refl, ap, ◌∙◌, subst, ⊎_elim, arith}
+use Rattle.std.proofs.lemmas.Bool.{both_ways, cases_Bool, eq-eqb, ne_eqb, cond-true, cond-false}
 use Rattle.std.specs.Option.{option_map}
-use Rattle.figures.specs.Accounts.{account_order}
-use Rattle.figures.specs.Limits.{last_certificate_number, most_total}
 use Rattle.figures.specs.declared.accounts.Account.{Account}
 use Rattle.figures.proofs.Orders.{account_order_total}
-use Rattle.books.specs.Changes.{moved, posted}
-use Rattle.books.specs.Ledger.{Ledger, matches, present}
-use Rattle.books.specs.declared.changes.Change.{Change}
+use Rattle.books.specs.Changes.{posted}
+use Rattle.books.specs.Ledger.{Ledger, present}
 use Rattle.books.specs.declared.changes.Change.TheVariants.{Up, Down}
-use Rattle.books.proofs.Ledgers.{matches_self, matches_equal, tests_differ, present_changed}
+use Rattle.books.proofs.Ledgers.{matches_equal, present_changed}
 use Rattle.order_file.specs.declared.orders.AcceptOffer.{AcceptOffer}
-use Rattle.order_file.specs.declared.orders.Cancel.{Cancel}
-use Rattle.order_file.specs.declared.orders.Declare.{Declare}
-use Rattle.order_file.specs.declared.orders.MakeOffer.{MakeOffer}
-use Rattle.order_file.specs.declared.orders.NewDay.{NewDay}
-use Rattle.order_file.specs.declared.orders.OpenAccount.{OpenAccount}
 use Rattle.order_file.specs.declared.orders.RecallOffer.{RecallOffer}
 use Rattle.range_map.specs.Counts.{bit, how_many, passes}
-use Rattle.range_map.specs.Plain.{within, Between, at, payload_at}
+use Rattle.range_map.specs.Plain.{Between, at}
 use Rattle.range_map.specs.declared.entry.Entry.{Entry}
 use Rattle.range_map.proofs.Cutting.{covers}
 use Rattle.range_map.proofs.Sums.{how_many_split, how_many_same, how_many_none}
-use Rattle.register.specs.Bookings.{opening, declaration, offering, acceptance_of, recall_of, day_opening}
-use Rattle.register.specs.Bookings as book
-use Rattle.register.specs.Checks.{wanted}
-use Rattle.register.specs.Holdings.{held_by, is_held, offered_under, sizes_of, counted, under_offer, entry_lapsed, given_back}
-use Rattle.register.specs.State.{State, is_account, account_from, has_account, range_size}
+use Rattle.register.specs.Bookings.{acceptance_of, recall_of}
+use Rattle.register.specs.Holdings.{held_by, offered_under, sizes_of, counted, under_offer, given_back}
+use Rattle.register.specs.State.{State, is_account}
 use Rattle.register.specs.Terms.{lapsed}
 use Rattle.register.specs.declared.calls.Call.TheVariants as call
 use Rattle.register.specs.declared.rows.Offer.{Offer}
 use Rattle.register.specs.declared.rows.OfferState.{OfferState}
-use Rattle.register.specs.declared.rows.OfferState.TheVariants.{Open, Accepted, Recalled}
-use Rattle.register.specs.declared.rows.Origin.{Origin}
+use Rattle.register.specs.declared.rows.OfferState.TheVariants.{Accepted, Recalled}
 use Rattle.register.specs.declared.rows.Standing.{Standing}
 use Rattle.register.specs.declared.rows.Standing.TheVariants.{Held, Offered, Cancelled, Expired}
 use Rattle.reckoning.specs.Agreement.{totals_of}
-use Rattle.reckoning.specs.Allowed.{HoldsAll, Declares, Offers, Answers, Accepts, Cancels}
-use Rattle.reckoning.specs.Reckoned.{History, today, issued_by, issued, is_next, origin, offers_made, closes, offer, cancellations_made, held_by_party, status, held_count, is_open}
+use Rattle.reckoning.specs.Reckoned.{History, today, issued, origin, closes, offer, held_by_party, status, held_count}
 use Rattle.reckoning.proofs.Entries.{each_at}
 use Rattle.reckoning.proofs.Invariant.{Sound, Maps, made_by, offered_by, offered_numbers, Totals}
 use Rattle.reckoning.proofs.MapsKept.{entry_term}
-use Rattle.reckoning.proofs.MemberTotals.{totals_joined, totals_changed_elsewhere, absent_0, Moves, up, down, stays, posted_to}
-use Rattle.reckoning.proofs.SoundKept.{none_some, was_issued, under_offer_lem}
+use Rattle.reckoning.proofs.MemberTotals.{absent_0, up, down, stays}
+use Rattle.reckoning.proofs.SoundKept.{under_offer_lem}
 use Rattle.reckoning.proofs.TotalsKept.{held_at, offered_at, held_few, offered_few, party, none_held, none_offered}
-use Rattle.reckoning.proofs.Tallies.{count_few, count_past, passes_at, sizes_count, between_issued}
+use Rattle.reckoning.proofs.Tallies.{count_few, passes_at, sizes_count, between_issued}
 
 -- what lies under an offer is a count of numbers
 module _ (h : History) (s : State) (sound : Sound h) (maps : Maps h s) where

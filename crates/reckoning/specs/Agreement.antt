@@ -1,5 +1,5 @@
 -- The tables of a register agree with what is reckoned from its booked calls. Assumes nothing.
-use Rattle.std.specs.Prelude.{◌≡◌, ℕ, ◌+◌, ◌-◌, ◌*◌, ◌<◌, ◌≤◌, Bool, true, false, List, [], map, is_some, Some, None, Option}
+use Rattle.std.specs.Prelude.{◌≡◌, ℕ, ◌+◌, ◌-◌, ◌*◌, ◌<◌, ◌≤◌, Bool, true, false, List, [], map, is_some, Some, None}
 use Rattle.std.specs.Option.{unwrap_or}
 use Rattle.figures.specs.Limits.{certificate_size}
 use Rattle.figures.specs.declared.accounts.Account.{Account}

@@ -1,15 +1,11 @@
 -- What made each booked call lawful when it was made, in terms of the calls before it. Assumes nothing.
-use Rattle.std.specs.Prelude.{◌≡◌, ℕ, ◌+◌, ◌<◌, ◌≤◌, Bool, true, false, ◌||◌, List, [], ◌∷◌, Some, None, Option}
+use Rattle.std.specs.Prelude.{◌≡◌, ℕ, ◌+◌, ◌<◌, ◌≤◌, Bool, true, false, ◌||◌, List, [], ◌∷◌, Some}
 use Rattle.figures.specs.Limits.{last_certificate_number, last_working_day, most_energy}
 use Rattle.figures.specs.declared.accounts.Account.{Account}
 use Rattle.order_file.specs.declared.orders.AcceptOffer.{AcceptOffer}
 use Rattle.order_file.specs.declared.orders.Cancel.{Cancel}
 use Rattle.order_file.specs.declared.orders.Declare.{Declare}
 use Rattle.order_file.specs.declared.orders.MakeOffer.{MakeOffer}
-use Rattle.order_file.specs.declared.orders.NewDay.{NewDay}
-use Rattle.order_file.specs.declared.orders.OpenAccount.{OpenAccount}
-use Rattle.order_file.specs.declared.orders.RecallOffer.{RecallOffer}
-use Rattle.order_file.specs.declared.orders.RegisterDevice.{RegisterDevice}
 use Rattle.register.specs.Runs.{in_turn}
 use Rattle.register.specs.State.{is_account, is_device, account_from}
 use Rattle.register.specs.Terms.{lapsed, valid_until}

@@ -1,6 +1,6 @@
 -- What is reckoned from the booked calls alone, number by number: no entry, cut, slot or table is mentioned.
 -- A history is the list of the booked calls, the newest first. Assumes nothing.
-use Rattle.std.specs.Prelude.{ℕ, ◌+◌, ◌-◌, ◌/◌, Bool, true, false, cond, not, ◌&&◌, List, [], ◌∷◌, ◌++◌, Some, None, Option, ◌==◌, nat_le, nat_lt}
+use Rattle.std.specs.Prelude.{ℕ, ◌+◌, ◌-◌, ◌/◌, Bool, true, false, cond, ◌&&◌, List, [], ◌∷◌, ◌++◌, Some, None, Option, ◌==◌, nat_le, nat_lt}
 use Rattle.std.specs.Option.{option_map}
 use Rattle.figures.specs.Limits.{certificate_size}
 use Rattle.figures.specs.declared.accounts.Account.{Account}

@@ -1,5 +1,5 @@
 -- How an answer to an offer settles. Assumes nothing.
-use Rattle.std.proofs.Common.{◌≡◌, ℕ, ◌-◌, true, List, set, Some, None, Ok, Err, Option, Result, sym, ap, ◌∙◌}
+use Rattle.std.proofs.Common.{◌≡◌, ℕ, ◌-◌, true, List, set, Some, None, Ok, Err, Option, sym, ap, ◌∙◌}
 use Rattle.figures.specs.declared.accounts.Account.{Account}
 use Rattle.books.specs.Ledger.{Ledger}
 use Rattle.range_map.specs.Map.{nth}

@@ -1,5 +1,5 @@
 -- How a declaration settles. Assumes nothing.
-use Rattle.std.proofs.Common.{◌≡◌, ℕ, ◌+◌, min, Bool, true, false, cond, ltb, List, [], ◌∷◌, Some, None, Ok, Err, Option, Result, sym, refl, ap, ◌∙◌, arith}
+use Rattle.std.proofs.Common.{◌≡◌, ℕ, ◌+◌, min, Bool, true, cond, ltb, List, [], ◌∷◌, None, Ok, refl, ap, ◌∙◌, arith}
 use Rattle.std.proofs.lemmas.Bool.{cond-true}
 use Rattle.figures.specs.Limits.{most_total}
 use Rattle.figures.specs.declared.accounts.Account.{Account}
@@ -17,9 +17,8 @@ use Rattle.register.specs.Faults.{first_fault}
 use Rattle.register.specs.Issues.{issue_of, issuing, origin_of, period_of}
 use Rattle.register.specs.Runs.{settled}
 use Rattle.register.specs.Settled.{Settles, answer_of, issued_count, map_of, state_of}
-use Rattle.register.specs.State.{MapOf, State, account_from, is_account, is_device, has_device}
+use Rattle.register.specs.State.{State, account_from, is_account, is_device, has_device}
 use Rattle.register.specs.declared.day.DayFigures.{DayFigures}
-use Rattle.register.specs.declared.faults.Fault.{Fault}
 use Rattle.register.specs.declared.issues.Issue.{Issue}
 use Rattle.register.specs.declared.rows.Standing.TheVariants.{Held}
 use Rattle.register.specs.declared.tables.Tables.{Tables}

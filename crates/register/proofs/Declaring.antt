@@ -1,5 +1,5 @@
 -- The checks of a declaration, as the code takes them. Assumes nothing.
-use Rattle.std.proofs.Common.{◌≡◌, List, ◌∷◌, ◌++◌, Some, None, Option, sym, subst}
+use Rattle.std.proofs.Common.{◌≡◌, List, ◌++◌, Some, None, Option, subst}
 use Rattle.order_file.specs.Checked.{plain_declaration}
 use Rattle.order_file.specs.Checks.{bad_declare}
 use Rattle.order_file.specs.declared.checked.Declaration.{Declaration}

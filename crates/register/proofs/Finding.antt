@@ -1,15 +1,12 @@
 -- Where the checks of a declaration pass, each of its entries finds its place. Assumes nothing.
-use Rattle.std.proofs.Common.{◌≡◌, ℕ, ◌+◌, ◌^◌, ◌<◌, ◌≤◌, Bool, true, false, cond, ltb, leb, List, [], ◌∷◌, length, Some, None, Ok, Err, Option, Result, sym, refl, ap, ◌∙◌, arith}
-use Rattle.std.proofs.lemmas.Bool.{lt-ltb, le-ltb, lt-leb, leb-true, ltb-true, or_from}
+use Rattle.std.proofs.Common.{◌≡◌, ℕ, ◌+◌, ◌^◌, ◌<◌, ◌≤◌, Bool, true, false, List, length, Some, None, Ok, Option, refl, arith}
+use Rattle.std.proofs.lemmas.Bool.{le-ltb, lt-leb, leb-true, ltb-true, or_from}
 use Rattle.figures.specs.Limits.{last_certificate_number}
 use Rattle.figures.specs.declared.names.Table.{Table}
 use Rattle.figures.specs.declared.names.Table.TheVariants.{Periods, Origins, Standings}
-use Rattle.range_map.specs.Map.{in_use, lay_answer, slots_of}
-use Rattle.range_map.specs.Placed.{taken}
+use Rattle.range_map.specs.Map.{lay_answer}
 use Rattle.range_map.specs.Plain.{bad}
 use Rattle.range_map.specs.Replies.{lay_reply}
-use Rattle.range_map.specs.declared.entry.Entry.{Entry}
-use Rattle.range_map.specs.declared.fault.MapFault.{MapFault}
 use Rattle.range_map.specs.declared.fault.MapFault.TheVariants as range
 use Rattle.register.specs.Checks.{meets, has_slot}
 use Rattle.register.specs.Faults.{unless, first_fault}

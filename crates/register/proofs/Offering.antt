@@ -1,7 +1,6 @@
 -- The checks of an offer, as the code takes them. Assumes nothing.
-use Rattle.std.proofs.Common.{◌≡◌, ℕ, ◌+◌, ◌^◌, ◌<◌, ◌≤◌, Bool, true, false, cond, not, ◌&&◌, ◌||◌, ltb, leb, List, [], ◌∷◌, length, Some, None, Ok, Err, Option, Result, sym, refl, ap, ◌∙◌, subst, ⊎_elim, arith}
+use Rattle.std.proofs.Common.{◌≡◌, ℕ, ◌+◌, ◌^◌, ◌≤◌, Bool, true, false, cond, not, ◌||◌, ltb, leb, List, [], ◌∷◌, length, Some, None, Ok, Err, Option, Result, sym, refl, ap, ◌∙◌, subst, ⊎_elim, arith}
 use Rattle.std.proofs.lemmas.Bool.{both_ways, cases_Bool, cases_lt, lt-ltb, le-ltb, le-leb, lt-leb, ltb-true, ltb-false, or_parts, cond-true, cond-false}
-use Rattle.std.specs.Option.{option_map}
 use Rattle.figures.specs.Limits.{last_certificate_number}
 use Rattle.figures.specs.declared.accounts.Account.{Account}
 use Rattle.figures.specs.declared.names.Table.TheVariants.{Standings, Offers}
@@ -23,7 +22,7 @@ use Rattle.register.specs.State.{State, is_account}
 use Rattle.register.specs.declared.faults.Fault.{Fault}
 use Rattle.register.specs.declared.faults.Fault.TheVariants.{Map, OfferedToItself}
 use Rattle.register.specs.declared.rows.Standing.{Standing}
-use Rattle.register.proofs.Verdicts.{Reaches, end, stop, pass, holds_test}
+use Rattle.register.proofs.Verdicts.{Reaches, pass, holds_test}
 
 -- a walk that meets no gap in what passes meets none in what is covered
 gap_weaker : {P : Type 0} (t : P → Bool) (f l : ℕ) (m : List (Entry P)) → gap_by t f l m ≡ None → gap f l m ≡ None

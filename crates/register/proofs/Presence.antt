@@ -1,5 +1,5 @@
 -- Whether a key has a running number is whether its book has it. Assumes nothing.
-use Rattle.std.proofs.Common.{◌≡◌, ℕ, Bool, true, false, not, List, is_some, Some, None, Option, sym, refl, ap, ◌∙◌}
+use Rattle.std.proofs.Common.{◌≡◌, ℕ, Bool, true, false, not, List, is_some, Some, None, Option, sym, ap, ◌∙◌}
 use Rattle.figures.specs.declared.names.BookName.{BookName}
 use Rattle.books.specs.Ledger.{Member, present, running_number}
 use Rattle.books.specs.declared.faults.BookFault.TheVariants.{Absent}

@@ -1,5 +1,5 @@
 -- The steps of a loop that remakes entries in place. Assumes nothing.
-use Rattle.std.proofs.Common.{◌≡◌, ℕ, zero, suc, ◌+◌, ◌≤◌, List, [], ◌∷◌, map, length, Some, None, Option, sym, refl, ap, ◌∙◌, add-one, arith}
+use Rattle.std.proofs.Common.{◌≡◌, ℕ, zero, suc, ◌+◌, ◌≤◌, List, [], ◌∷◌, map, length, Some, None, sym, refl, ap, ◌∙◌, add-one, arith}
 use Rattle.range_map.specs.Map.{nth, repaid_at}
 use Rattle.range_map.specs.Plain.{remade}
 use Rattle.range_map.specs.declared.entry.Entry.{Entry}

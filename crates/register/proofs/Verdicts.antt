@@ -1,6 +1,5 @@
 -- The first check that fails, found by passing over those that do not. Assumes nothing.
-use Rattle.std.proofs.Common.{◌≡◌, ℕ, Bool, true, false, not, List, [], ◌∷◌, ◌++◌, IfOk, Some, None, Ok, Err, Option, Result, sym, refl, ap, ◌∙◌, subst, arith}
-use Rattle.std.specs.Option.{option_map}
+use Rattle.std.proofs.Common.{◌≡◌, ℕ, Bool, true, false, List, [], ◌∷◌, ◌++◌, IfOk, Some, None, Ok, Err, Option, Result, sym, refl, ap, ◌∙◌, subst, arith}
 use Rattle.order_file.specs.Checks.{refused_at}
 use Rattle.order_file.specs.declared.faults.OperandFault.{OperandFault}
 use Rattle.register.specs.Checks.{bad_at}

@@ -1,8 +1,7 @@
 -- What each call books: the register afterwards. Assumes nothing.
-use Rattle.std.specs.Prelude.{ℕ, ◌+◌, ◌-◌, Bool, true, false, cond, List, [], ◌∷◌, map, Some, None, Option, nat_lt, slice_set}
-use Rattle.figures.specs.declared.accounts.Account.{Account}
+use Rattle.std.specs.Prelude.{ℕ, ◌+◌, ◌-◌, true, false, cond, List, map, Some, None, Option, nat_lt, slice_set}
 use Rattle.books.specs.Changes.{posted}
-use Rattle.books.specs.Ledger.{Ledger, enrolled, written_in}
+use Rattle.books.specs.Ledger.{enrolled, written_in}
 use Rattle.books.specs.declared.changes.Change.TheVariants.{Up, Down}
 use Rattle.order_file.specs.declared.orders.AcceptOffer.{AcceptOffer}
 use Rattle.order_file.specs.declared.orders.Cancel.{Cancel}
@@ -22,7 +21,6 @@ use Rattle.register.specs.declared.rows.Cancellation.{Cancellation}
 use Rattle.register.specs.declared.rows.Offer.{Offer}
 use Rattle.register.specs.declared.rows.OfferState.{OfferState}
 use Rattle.register.specs.declared.rows.OfferState.TheVariants.{Open, Accepted, Recalled}
-use Rattle.register.specs.declared.rows.Standing.{Standing}
 use Rattle.register.specs.declared.rows.Standing.TheVariants.{Held, Offered, Cancelled}
 
 abbrev pub entry : {P : Type 0} → ℕ → ℕ → P → Entry P

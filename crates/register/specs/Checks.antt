@@ -1,5 +1,5 @@
 -- The checks of each call, in their order. Assumes nothing.
-use Rattle.std.specs.Prelude.{ℕ, ◌+◌, ◌-◌, ◌*◌, ◌/◌, ◌%◌, min, Bool, true, false, cond, not, ◌&&◌, List, [], ◌∷◌, length, Some, None, Option, nat_le, nat_lt}
+use Rattle.std.specs.Prelude.{ℕ, ◌+◌, ◌-◌, ◌*◌, ◌/◌, ◌%◌, min, Bool, cond, not, ◌&&◌, List, [], ◌∷◌, length, Some, None, Option, nat_le, nat_lt}
 use Rattle.std.specs.Option.{option_map, unwrap_or}
 use Rattle.figures.specs.Limits.{certificate_size, last_certificate_number, last_working_day, most_members, most_total}
 use Rattle.figures.specs.declared.accounts.Account.{Account}

@@ -1,5 +1,5 @@
 -- What a declaration comes to, as one value, and the checks that ask it. Assumes nothing.
-use Rattle.std.specs.Prelude.{◌≡◌, ℕ, ◌+◌, ◌≤◌, min, Bool, true, false, cond, List, [], ◌∷◌, Some, None, Ok, Option, nat_le, nat_lt}
+use Rattle.std.specs.Prelude.{◌≡◌, ℕ, ◌+◌, ◌≤◌, min, Bool, true, false, cond, List, [], ◌∷◌, None, Ok, Option, nat_le, nat_lt}
 use Rattle.figures.specs.Limits.{last_certificate_number, most_total}
 use Rattle.figures.specs.declared.names.Table.TheVariants.{Periods, Origins, Standings}
 use Rattle.books.specs.Ledger.{Ledger}

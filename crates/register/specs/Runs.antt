@@ -1,6 +1,6 @@
 -- One call after another: the first check that fails refuses a call, and a refused call changes nothing.
 -- Assumes nothing.
-use Rattle.std.specs.Prelude.{◌≡◌, ℕ, Bool, true, false, cond, not, ◌&&◌, List, [], ◌∷◌, Some, None, Option}
+use Rattle.std.specs.Prelude.{◌≡◌, Bool, true, false, cond, not, ◌&&◌, List, [], ◌∷◌, Some, None, Option}
 use Rattle.register.specs.Bookings.{opening, registration, declaration, offering, acceptance, recall, cancellation, day_opening, day_closing}
 use Rattle.register.specs.Checks.{opening_checks, registration_checks, declaration_checks, offer_checks, acceptance_checks, recall_checks, cancellation_checks, day_opening_checks}
 use Rattle.register.specs.Faults.{first_fault}

@@ -1,11 +1,10 @@
 -- What a register means: its day, its two books and its five tables. Assumes nothing.
-use Rattle.std.specs.Prelude.{ℕ, ◌+◌, ◌-◌, ◌*◌, min, Bool, List, length}
-use Rattle.std.specs.declared.cmp.Ordering.{Ordering}
+use Rattle.std.specs.Prelude.{ℕ, ◌+◌, ◌-◌, min, Bool, List, length}
 use Rattle.figures.specs.Accounts.{account_order}
 use Rattle.figures.specs.Limits.{most_members}
 use Rattle.figures.specs.declared.accounts.Account.{Account}
 use Rattle.books.specs.Keys.{device_order}
-use Rattle.books.specs.Ledger.{Ledger, Member, matches, present}
+use Rattle.books.specs.Ledger.{Ledger, matches, present}
 use Rattle.order_file.specs.declared.orders.AccountOperand.{AccountOperand}
 use Rattle.range_map.specs.declared.entry.Entry.{Entry}
 use Rattle.register.specs.declared.rows.Cancellation.{Cancellation}

@@ -1,5 +1,4 @@
-use Rattle.std.proofs.Common.{refl, arith}
-use Rattle.calendar.specs.Dates.{month_start}
+use Rattle.std.proofs.Common.{arith}
 use Rattle.calendar.proofs.Table.{first_month, working_months}
 use Rattle.calendar.proofs.months.month_of.Goals as goal
 

@@ -1,5 +1,4 @@
-use Rattle.std.proofs.Common.{refl, arith}
-use Rattle.figures.specs.Gs1.{weighted_sum}
+use Rattle.std.proofs.Common.{arith}
 use Rattle.figures.proofs.Weights.{pairs_less, all_pairs, no_pair}
 use Rattle.figures.proofs.devices.weighted_sum.Goals as goal
 

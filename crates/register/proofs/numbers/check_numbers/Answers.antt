@@ -1,8 +1,8 @@
-use Rattle.std.proofs.Common.{◌≡◌, Result, sym, refl, ap, ◌∙◌}
+use Rattle.std.proofs.Common.{Result, sym, ap, ◌∙◌}
 use Rattle.std.proofs.lemmas.Result.{err_from_is_err_and}
 use Rattle.range_map.specs.Map.{in_use, slots_of}
 use Rattle.register.proofs.Offering.{held_covered, not_held_none, good_numbers, change_full, change_fits}
-use Rattle.register.proofs.Verdicts.{end, stop, pass, judged_err, judged_ok, ok_fault}
+use Rattle.register.proofs.Verdicts.{end, stop, pass, judged_err, judged_ok}
 use Rattle.register.proofs.numbers.check_numbers.Goals as goal
 
 pub returns-in_err-check_held : goal.returns-in_err-check_held

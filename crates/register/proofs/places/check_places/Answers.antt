@@ -1,4 +1,4 @@
-use Rattle.std.proofs.Common.{◌≡◌, Result, ap, ◌∙◌}
+use Rattle.std.proofs.Common.{Result, ap, ◌∙◌}
 use Rattle.std.proofs.lemmas.Result.{err_from_is_err_and}
 use Rattle.register.proofs.Finding.{finds, checks_of_free, checks_of_slots}
 use Rattle.register.proofs.Verdicts.{known_rest, stop_in, pass_all, judged_err, judged_ok}

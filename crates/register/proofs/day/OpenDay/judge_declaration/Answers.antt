@@ -1,4 +1,4 @@
-use Rattle.std.proofs.Common.{◌≡◌, true, Result, ap, ◌∙◌}
+use Rattle.std.proofs.Common.{true, Result, ap, ◌∙◌}
 use Rattle.std.proofs.lemmas.Result.{err_from_is_err_and}
 use Rattle.register.specs.Settled.{state_of}
 use Rattle.register.proofs.Declaring.{days_refused, to_places, issue_of_lem}

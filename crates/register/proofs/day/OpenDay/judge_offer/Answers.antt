@@ -1,4 +1,4 @@
-use Rattle.std.proofs.Common.{◌≡◌, true, Result, sym, refl, ap, ◌∙◌}
+use Rattle.std.proofs.Common.{true, Result, sym, ap, ◌∙◌}
 use Rattle.std.proofs.lemmas.Result.{err_from_is_err_and}
 use Rattle.register.specs.Settled.{state_of, ledger_without_devices}
 use Rattle.register.proofs.Offering.{to_numbers}
