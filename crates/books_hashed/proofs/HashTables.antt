@@ -46,8 +46,8 @@ module _ {P : Type 0} {order : P → P → Ordering} (lawful : TotalOrder order)
   some_slots k i e =
       ⊎_elim
       (λ none.
-      let zero-slots : length slots ≡ 0 = omega arith in
-      absurd (full_free (sym (ap (λ n. probe_from (matches order k) (key_at slots) (length slots) (spread k % length slots) n) zero-slots) ∙ e)))
+      let zero_slots : length slots ≡ 0 = omega arith in
+      absurd (full_free (sym (ap (λ n. probe_from (matches order k) (key_at slots) (length slots) (spread k % length slots) n) zero_slots) ∙ e)))
       (λ some. omega arith)
       (cases_lt (length slots) 1)
 

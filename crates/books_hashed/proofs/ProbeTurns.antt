@@ -17,8 +17,8 @@ module _ {P : Type 0} (is : P → Bool) where
     unfolding rest
     turned =
         let fuel : suc (length slots - (step + 1)) ≡ length slots - step = omega arith in
-        let key-is : option_map (λ r. r.key) slot ≡ key_at slots at = ap (option_map (λ r. r.key)) (read ∙ get_or_default slots at slot None inside) in
-        ap (λ k. ends_or (glanced is k at) rest) key-is ∙ ap (probe_from is (key_at slots) (length slots) at) fuel ∙ inv
+        let key_is : option_map (λ r. r.key) slot ≡ key_at slots at = ap (option_map (λ r. r.key)) (read ∙ get_or_default slots at slot None inside) in
+        ap (λ k. ends_or (glanced is k at) rest) key_is ∙ ap (probe_from is (key_at slots) (length slots) at) fuel ∙ inv
 
     pub ends_here : (r : Probe) → Some r ≡ glanced is (option_map (λ x. x.key) slot) at → r ≡ end
     ends_here r h = ap (λ o. ends_or o rest) h ∙ turned

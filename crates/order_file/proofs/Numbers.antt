@@ -20,6 +20,6 @@ module _ (bytes : List ℕ) (value i : ℕ) (small : value < 256 ^ i) (so : valu
   number_next more within is = is ∙ ap (λ v. v * 256 + get_or bytes i 0) so ∙ sym (number_more 256 bytes i within)
 
   pub number_whole : i ≤ length bytes → length bytes ≤ i → (value ≡ number_of_bytes bytes) × (value < 256 ^ length bytes)
-  number_whole at_most at_least_lem =
+  number_whole at_most at_least =
       let all : i ≡ length bytes = omega arith in
-      (so ∙ ap number_of_bytes (take_all i bytes at_least_lem), rw all at small)
+      (so ∙ ap number_of_bytes (take_all i bytes at_least), rw all at small)

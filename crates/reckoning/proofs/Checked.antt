@@ -128,12 +128,12 @@ pub declaration_passed : (h : History) (o : Declare) (s : State) → Sound h →
 declaration_passed h o s sound maps rows energies none =
     let all = all_passed (declaration_checks o s) none in
     let operands = bad_none (bad_declare o) all.0 in
-    let device-operand = lawful_operand (gs1 o.device) 1 _ operands in
-    let account-operand = lawful_operand (lawful_account o.account) 9 _ device-operand.1 in
-    let days = lawful_operand (days_lawful o.first_day o.last_day) 19 _ account-operand.1 in
+    let device_operand = lawful_operand (gs1 o.device) 1 _ operands in
+    let account_operand = lawful_operand (lawful_account o.account) 9 _ device_operand.1 in
+    let days = lawful_operand (days_lawful o.first_day o.last_day) 19 _ account_operand.1 in
     let energy = lawful_operand (energy_lawful o.energy) 23 _ days.1 in
-    let day-ends = and_parts (leb o.first_day o.last_day) (leb o.last_day last_working_day) days.0 in
-    let energy-ends = and_parts (leb 1 o.energy) (leb o.energy most_energy) energy.0 in
+    let day_ends = and_parts (leb o.first_day o.last_day) (leb o.last_day last_working_day) days.0 in
+    let energy_ends = and_parts (leb 1 o.energy) (leb o.energy most_energy) energy.0 in
     let device = test_passed (has_device o.device s) (Book (Absent Devices)) all.1.0 in
     let account = account_there (account_from o.account) s all.1.1.0 in
     let produced = ltb-true o.last_day s.date (test_passed (ltb o.last_day s.date) (NotYetProduced o.last_day) all.1.1.1.0) in
@@ -143,11 +143,11 @@ declaration_passed h o s sound maps rows energies none =
       permitted = record {
         device = sym (device_known_lem h s rows o.device) ∙ device;
         account = sym (account_known_lem h s rows (account_from o.account)) ∙ account;
-        days = leb-true _ _ day-ends.0;
+        days = leb-true _ _ day_ends.0;
         produced = omega (arith, produced, rows.date);
         within_term = omega (arith, term, rows.date);
-        some_energy = leb-true _ _ energy-ends.0;
-        energy = leb-true _ _ energy-ends.1;
+        some_energy = leb-true _ _ energy_ends.0;
+        energy = leb-true _ _ energy_ends.1;
         numbers = omega (arith, limit, wanted_is h o s energies, rows.last, sound.limit);
       };
       device = device;
@@ -220,9 +220,9 @@ open_state Recalled h = absurd (none_some (sym h))
 
 answer_passed : (h : History) (k : ℕ) (a : Account) (party : Offer → Account) (s : State) → Rows h s → has_account a s ≡ true → offer_known k (offer_numbered k s) ≡ None → by_party a party (offer_numbered k s) ≡ None → offer_open (offer_numbered k s) ≡ None → AnswersOn h k a party s
 answer_passed h k a party s rows known made by still =
-    let offer-at = known_offer k (offer_numbered k s) made in
-    let f = offer-at.0 in
-    let numbered = offer-at.1 in
+    let offer_at = known_offer k (offer_numbered k s) made in
+    let f = offer_at.0 in
+    let numbered = offer_at.1 in
     let test = leb 1 k && (leb k s.offered && leb k (room s.offers)) in
     let in_table : test ≡ true = in_range test (nth (k - 1) s.offers) f numbered in
     let ends = and_parts (leb 1 k) (leb k s.offered && leb k (room s.offers)) in_table in
@@ -231,19 +231,19 @@ answer_passed h k a party s rows known made by still =
     let high = leb-true k s.offered more.0 in
     let fits = leb-true k (room s.offers) more.1 in
     let row = sym (cond-true test (nth (k - 1) s.offers) None in_table) ∙ numbered in
-    let is-party = matches_equal account_order_total a (party f) (test_passed (is_account a (party f)) (WrongParty a) (sym (ap (by_party a party) numbered) ∙ by)) in
+    let is_party = matches_equal account_order_total a (party f) (test_passed (is_account a (party f)) (WrongParty a) (sym (ap (by_party a party) numbered) ∙ by)) in
     record {
       answers = record {
         terms = f;
         made = sym (rows.offers k low (omega (arith, high, rows.offers_on_record))) ∙ row;
         still_open = open_state f.state (sym (ap offer_open numbered) ∙ still);
-        by = sym is-party;
+        by = sym is_party;
         known = sym (account_known_lem h s rows a) ∙ known;
       };
       found = numbered;
       one = low;
       within = omega (arith, fits);
-      account = ap (λ x. has_account x s) (sym is-party) ∙ known;
+      account = ap (λ x. has_account x s) (sym is_party) ∙ known;
     }
   where
     in_range : (b : Bool) (x : Option Offer) (f : Offer) → cond b x None ≡ Some f → b ≡ true

@@ -201,9 +201,9 @@ module _ (h : History) (o : Declare) (s : State) (sound : Sound h) (maps : Maps 
   none_wanted b = omega (arith, ltb-false 0 (wanted o s) b)
 
   pub maps_declaration : (0 < wanted o s → taken (first_issued s) (last_issued o s) s.origins.entries ≡ None) → (0 < wanted o s → taken (first_issued s) (last_issued o s) s.standings.entries ≡ None) → Maps (call.Declaration o ∷ h) (declaration o s)
-  maps_declaration free-origins free-standings =
-      let standings = cond_both {A = MapOf Standing} (ltb 0 (wanted o s)) _ s.standings StandingsKept (λ b. let some = ltb-true 0 (wanted o s) b in standings_laid some (free-standings some)) (λ b. standings_as_found (none_wanted b)) in
-      let origins = cond_both {A = MapOf Origin} (ltb 0 (wanted o s)) _ s.origins OriginsKept (λ b. let some = ltb-true 0 (wanted o s) b in origins_kept some (free-origins some)) (λ b. (maps.origins_rise, λ n. maps.origins n ∙ sym (origin_none (none_wanted b) n))) in
+  maps_declaration free_origins free_standings =
+      let standings = cond_both {A = MapOf Standing} (ltb 0 (wanted o s)) _ s.standings StandingsKept (λ b. let some = ltb-true 0 (wanted o s) b in standings_laid some (free_standings some)) (λ b. standings_as_found (none_wanted b)) in
+      let origins = cond_both {A = MapOf Origin} (ltb 0 (wanted o s)) _ s.origins OriginsKept (λ b. let some = ltb-true 0 (wanted o s) b in origins_kept some (free_origins some)) (λ b. (maps.origins_rise, λ n. maps.origins n ∙ sym (origin_none (none_wanted b) n))) in
       record { standings_rise = standings.0; origins_rise = origins.0; standings = standings.1; origins = origins.1; even = standings.2 }
 
 -- calls that change numbers of a range: an offer and a cancellation

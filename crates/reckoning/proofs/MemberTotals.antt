@@ -94,7 +94,7 @@ moved_is known (Up n) old new m = omega (arith, m.rises n refl, m.still_few)
 moved_is known (Down n) old new m = omega (arith, m.falls n refl, m.few)
 
 -- both totals of a party after a posting
-pub posted_to : {P : Type 0} (is : P → Bool) (f s : Change) (l : Ledger P) (new-first new-second : ℕ) → Moves (present is l.members) f (totals_of is l).0 new-first → Moves (present is l.members) s (totals_of is l).1 new-second → ((totals_of is (posted is f s l)).0 ≡ new-first) × ((totals_of is (posted is f s l)).1 ≡ new-second)
+pub posted_to : {P : Type 0} (is : P → Bool) (f s : Change) (l : Ledger P) (new_first new_second : ℕ) → Moves (present is l.members) f (totals_of is l).0 new_first → Moves (present is l.members) s (totals_of is l).1 new_second → ((totals_of is (posted is f s l)).0 ≡ new_first) × ((totals_of is (posted is f s l)).1 ≡ new_second)
 posted_to is f s l a b p q =
     let after = totals_changed_in is (moved f) (moved s) l in
     ⊎_elim

@@ -129,14 +129,14 @@ module _ (h : History) (o : Declare) (sound : Sound h) (may : Declares h o) wher
 
   term_of : (n : ℕ) → is_next h o n ≡ true → lapsed (today h) (origin (call.Declaration o ∷ h) n) ≡ false
   unfolding origin
-  term_of n is-next =
+  term_of n among_next =
       let within_term = may.within_term in
-      ap (lapsed (today h)) (cond-true _ _ _ is-next)
+      ap (lapsed (today h)) (cond-true _ _ _ among_next)
       ∙ ap is_some (cond-false _ _ _ (le-ltb (valid_until o.last_day) (today h) may.within_term))
 
   term_kept : (n : ℕ) → is_next h o n ≡ false → origin (call.Declaration o ∷ h) n ≡ origin h n
   unfolding origin
-  term_kept n not-next = cond-false _ _ _ not-next
+  term_kept n not_next = cond-false _ _ _ not_next
 
   covered_new : (n : ℕ) → issued h < n → n ≤ issued h + issued_by h o → status (call.Declaration o ∷ h) n ≡ Some (Held (account_from o.account))
   unfolding status
@@ -465,14 +465,14 @@ module _ (h : History) (o : NewDay) (sound : Sound h) where
 
   kept : (n : ℕ) → passes is_held (status h n) ≡ false → status (call.DayOpening o ∷ h) n ≡ status h n
   unfolding status
-  kept n not-held = cond-false _ _ _ (and_left _ _ not-held)
+  kept n not_held = cond-false _ _ _ (and_left _ _ not_held)
 
   covered_kept : (n : ℕ) → 1 ≤ n → n ≤ issued h → is_some (status (call.DayOpening o ∷ h) n) ≡ true
   unfolding status
   covered_kept n low high = cond_both {A = Option Standing} (lapses n) (Some Expired) (status h n) (λ x. is_some x ≡ true) (λ _. refl) (λ _. sound.covered n low high)
 
   still_held : (n : ℕ) (a : Account) → lapses n ≡ false → status h n ≡ Some (Held a) → lapsed o.date (origin h n) ≡ false
-  still_held n a not-lapsing is = sym (ap (λ x. passes is_held x && lapsed o.date (origin h n)) is) ∙ not-lapsing
+  still_held n a not_lapsing is = sym (ap (λ x. passes is_held x && lapsed o.date (origin h n)) is) ∙ not_lapsing
 
   pub sound_day_opening : Sound (call.DayOpening o ∷ h)
   unfolding issued offer cancellation offers_made cancellations_made today origin declared

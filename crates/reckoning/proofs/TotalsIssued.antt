@@ -283,14 +283,14 @@ module _ (h : History) (o : Declare) (s : State) (sound : Sound h) (totals : Tot
   totals_declaration after = record { held = λ a. (declared_totals after a).0; offered = λ a. (declared_totals after a).1 }
 
 -- calls that no number takes part in
-module _ (h h' : History) (s s' : State) (totals : Totals h s) (account : (a : Account) → totals_of (is_account a) s'.accounts ≡ totals_of (is_account a) s.accounts) (status-same : (n : ℕ) → status h' n ≡ status h n) (issued-same : issued h' ≡ issued h) (offers-same : (k : ℕ) → offer h' k ≡ offer h k) where
+module _ (h h' : History) (s s' : State) (totals : Totals h s) (account : (a : Account) → totals_of (is_account a) s'.accounts ≡ totals_of (is_account a) s.accounts) (status_same : (n : ℕ) → status h' n ≡ status h n) (issued_same : issued h' ≡ issued h) (offers_same : (k : ℕ) → offer h' k ≡ offer h k) where
   held_as_before : (a : Account) → held_count h a ≡ held_count h' a
   unfolding held_count
-  held_as_before a = sym (ap (λ n. how_many (held_at h' a) (n + 1)) issued-same ∙ how_many_same (held_at h' a) (held_at h a) (issued h + 1) (λ n _. ap (passes (held_by a)) (status-same n)))
+  held_as_before a = sym (ap (λ n. how_many (held_at h' a) (n + 1)) issued_same ∙ how_many_same (held_at h' a) (held_at h a) (issued h + 1) (λ n _. ap (passes (held_by a)) (status_same n)))
 
   offered_as_before : (a : Account) → offered_numbers h a ≡ offered_numbers h' a
   unfolding offered_numbers
-  offered_as_before a = sym (ap (λ n. how_many (offered_at h' a) (n + 1)) issued-same ∙ how_many_same (offered_at h' a) (offered_at h a) (issued h + 1) (λ n _. ap (offered_by h' a) (status-same n) ∙ same_offers h h' a offers-same (status h n)))
+  offered_as_before a = sym (ap (λ n. how_many (offered_at h' a) (n + 1)) issued_same ∙ how_many_same (offered_at h' a) (offered_at h a) (issued h + 1) (λ n _. ap (offered_by h' a) (status_same n) ∙ same_offers h h' a offers_same (status h n)))
 
   totals_same : Totals h' s'
   totals_same = record {

@@ -67,21 +67,21 @@ module _ (h : History) (s : State) (totals : Totals h s) (a : Account) where
   none_offered b = ap (λ t. t.1) (absent_0 (is_account a) s.accounts b)
 
 -- numbers f to l that account b holds get the standing p, which is not Held
-module _ (h : History) (b : Account) (f l : ℕ) (held : HoldsAll h b f l) (p : Standing) (a : Account) (not-held : held_by a p ≡ false) where
+module _ (h : History) (b : Account) (f l : ℕ) (held : HoldsAll h b f l) (p : Standing) (a : Account) (not_held : held_by a p ≡ false) where
   inside : (n : ℕ) → within f l n ≡ true → status h n ≡ Some (Held b)
   inside n t = let ends = and_parts (leb f n) (leb n l) t in held.each n (leb-true f n ends.0) (leb-true n l ends.1)
 
   put_held_same : is_account a b ≡ false → (n : ℕ) → passes (held_by a) (cond (within f l n) (Some p) (status h n)) ≡ held_at h a n
   put_held_same other n =
       ⊎_elim
-      (λ t. ap (passes (held_by a)) (cond-true _ _ _ t) ∙ not-held ∙ sym (ap (passes (held_by a)) (inside n t) ∙ other))
+      (λ t. ap (passes (held_by a)) (cond-true _ _ _ t) ∙ not_held ∙ sym (ap (passes (held_by a)) (inside n t) ∙ other))
       (λ t. ap (passes (held_by a)) (cond-false _ _ _ t))
       (cases_Bool (within f l n))
 
   put_held_split : is_account a b ≡ true → (n : ℕ) → bit (held_at h a n) ≡ bit (passes (held_by a) (cond (within f l n) (Some p) (status h n))) + bit (within f l n)
   put_held_split this n =
       ⊎_elim
-      (λ t. ap bit (ap (passes (held_by a)) (inside n t) ∙ this) ∙ sym ((λ i. bit (passes (held_by a) (cond (t i) (Some p) (status h n))) + bit (t i)) ∙ ap (λ x. bit x + 1) not-held))
+      (λ t. ap bit (ap (passes (held_by a)) (inside n t) ∙ this) ∙ sym ((λ i. bit (passes (held_by a) (cond (t i) (Some p) (status h n))) + bit (t i)) ∙ ap (λ x. bit x + 1) not_held))
       (λ t. sym ((λ i. bit (passes (held_by a) (cond (t i) (Some p) (status h n))) + bit (t i)) ∙ omega arith))
       (cases_Bool (within f l n))
 

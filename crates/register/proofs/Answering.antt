@@ -39,9 +39,9 @@ module _ (call : OfferCall) (k : ℕ) (f : Offer) (day : DayFigures) (accounts a
       (totals : accounts' ≡ posted)
       (stands : map_of tables'.standings ≡ standings)
       (row : (o : Offer) → nth (k - 1) rows ≡ Some o → tables'.offers.now ≡ set rows (k - 1) (answered_by call o))
-      (same-periods : tables'.periods ≡ tables.periods)
-      (same-origins : tables'.origins ≡ tables.origins)
-      (same-cancellations : tables'.cancellations ≡ tables.cancellations)
+      (same_periods : tables'.periods ≡ tables.periods)
+      (same_origins : tables'.origins ≡ tables.origins)
+      (same_cancellations : tables'.cancellations ≡ tables.cancellations)
     where
       offers_after : tables'.offers.now ≡ set rows (k - 1) (in_state (state_after Open call) f)
       offers_after =
@@ -51,6 +51,6 @@ module _ (call : OfferCall) (k : ℕ) (f : Offer) (day : DayFigures) (accounts a
       -- what is booked of the offer that there is
       pub answer_booked : (book : Offer → State → State) → book f (state_of true day accounts devices tables) ≡ answered (state_of true day accounts devices tables) posted standings (set rows (k - 1) (in_state (state_after Open call) f)) → state_of true day accounts' devices tables' ≡ of_offer book (offer_at k day.offers rows) (state_of true day accounts devices tables)
       answer_booked book booked =
-          (λ i. record { opened = true; date = day.date; last = day.last_number.0; offered = day.offers; cancelled = day.cancellations; accounts = totals i; devices = devices; periods = map_of (same-periods i); origins = map_of (same-origins i); standings = stands i; offers = offers_after i; cancellations = (same-cancellations i).now })
+          (λ i. record { opened = true; date = day.date; last = day.last_number.0; offered = day.offers; cancelled = day.cancellations; accounts = totals i; devices = devices; periods = map_of (same_periods i); origins = map_of (same_origins i); standings = stands i; offers = offers_after i; cancellations = (same_cancellations i).now })
           ∙ sym booked
           ∙ ap (λ o. of_offer book o (state_of true day accounts devices tables)) (sym found)

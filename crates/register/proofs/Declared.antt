@@ -48,7 +48,7 @@ module _ (o : Declare) (d : Declaration) (i : Issue) (day : DayFigures) (last : 
       (cancellations : tables'.cancellations.now ≡ tables.cancellations.now)
       (credited : accounts' ≡ cond (ltb 0 i.count.0) (posted (is_account d.account) (Up i.count.0) (Up 0) accounts) accounts)
       (written : devices' ≡ write_after (is_device d.device.digits) i.left.0 i.issued devices)
-      (last-is : last.0 ≡ cond (issuing i) i.last.0 day.last_number.0)
+      (last_is : last.0 ≡ cond (issuing i) i.last.0 day.last_number.0)
     where
       known : has_device o.device before ≡ true
       known = passed _ _ (all_pass (declaration_checks o before) none).1.0
@@ -62,12 +62,12 @@ module _ (o : Declare) (d : Declaration) (i : Issue) (day : DayFigures) (last : 
 
       booked : state_of true (record { date = day.date; last_number = last; offers = day.offers; cancellations = day.cancellations }) accounts' devices' tables' ≡ declaration o before
       booked =
-          let periods-after = periods ∙ (λ k. lay_into (entry (issue k).period_first (issue k).period_last (period_of (operands k))) (map_of tables.periods)) in
-          let origins-after = origins ∙ (λ k. cond (issuing (issue k)) (lay_into (entry (issue k).first.0 (issue k).last.0 (origin_of (operands k))) (map_of tables.origins)) (map_of tables.origins)) in
-          let standings-after = standings ∙ (λ k. cond (issuing (issue k)) (lay_into (entry (issue k).first.0 (issue k).last.0 (Held (account_from (operands k).account))) (map_of tables.standings)) (map_of tables.standings)) in
-          let accounts-after = credited ∙ (λ k. cond (ltb 0 (issue k).count.0) (posted (is_account (account_from (operands k).account)) (Up (issue k).count.0) (Up 0) accounts) accounts) in
-          let last-after = last-is ∙ (λ k. cond (issuing (issue k)) (issue k).last.0 day.last_number.0) in
-          λ k. record { opened = true; date = day.date; last = last-after k; offered = day.offers; cancelled = day.cancellations; accounts = accounts-after k; devices = devices_after k; periods = periods-after k; origins = origins-after k; standings = standings-after k; offers = offers k; cancellations = cancellations k }
+          let periods_after = periods ∙ (λ k. lay_into (entry (issue k).period_first (issue k).period_last (period_of (operands k))) (map_of tables.periods)) in
+          let origins_after = origins ∙ (λ k. cond (issuing (issue k)) (lay_into (entry (issue k).first.0 (issue k).last.0 (origin_of (operands k))) (map_of tables.origins)) (map_of tables.origins)) in
+          let standings_after = standings ∙ (λ k. cond (issuing (issue k)) (lay_into (entry (issue k).first.0 (issue k).last.0 (Held (account_from (operands k).account))) (map_of tables.standings)) (map_of tables.standings)) in
+          let accounts_after = credited ∙ (λ k. cond (ltb 0 (issue k).count.0) (posted (is_account (account_from (operands k).account)) (Up (issue k).count.0) (Up 0) accounts) accounts) in
+          let last_after = last_is ∙ (λ k. cond (issuing (issue k)) (issue k).last.0 day.last_number.0) in
+          λ k. record { opened = true; date = day.date; last = last_after k; offered = day.offers; cancelled = day.cancellations; accounts = accounts_after k; devices = devices_after k; periods = periods_after k; origins = origins_after k; standings = standings_after k; offers = offers k; cancellations = cancellations k }
 
       pub declared : Settles (declaration_checks o) (issued_count o) (declaration o) before (Ok i.count) (state_of true (record { date = day.date; last_number = last; offers = day.offers; cancellations = day.cancellations }) accounts' devices' tables')
       declared = record {

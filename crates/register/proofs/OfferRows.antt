@@ -22,9 +22,9 @@ module _ (k made : ℕ) (rows : List Offer) where
   test = leb 1 k && (leb k made && leb k (room rows))
 
   pub offer_here : (d : Offer) → 1 ≤ k → k ≤ made → k ≤ room rows → Some (get_or rows (k - 1) d) ≡ offer_at k made rows
-  offer_here d some in-made in-room =
+  offer_here d some in_made in_room =
       sym (
-      cond-true _ _ _ (and_from _ _ (le-leb 1 k some) (and_from _ _ (le-leb k made in-made) (le-leb k (room rows) in-room)))
+      cond-true _ _ _ (and_from _ _ (le-leb 1 k some) (and_from _ _ (le-leb k made in_made) (le-leb k (room rows) in_room)))
       ∙ nth_at rows (k - 1) d (omega arith)
       )
 

@@ -48,7 +48,7 @@ registration o s = record { opened = s.opened; date = s.date; last = s.last; off
 -- The period is laid down, and the device's totals are what the division gave.
 -- If certificates result, the next numbers get their origin and are held by the account.
 abbrev pub if_any : {X : Type 0} → Declare → State → X → X → X
-if_any o s booked as-found = cond (nat_lt 0 (wanted o s)) booked as-found
+if_any o s booked as_found = cond (nat_lt 0 (wanted o s)) booked as_found
 
 abbrev pub declaration : Declare → State → State
 declaration o s = record { opened = s.opened; date = s.date; last = if_any o s (last_issued o s) s.last; offered = s.offered; cancelled = s.cancelled; accounts = if_any o s (posted (is_account (account_from o.account)) (Up (wanted o s)) (Up 0) s.accounts) s.accounts; devices = written_in (is_device o.device) (left o s) ((device_totals o.device s).1 + wanted o s) s.devices; periods = lay_into (entry (period_at o.device s o.first_day) (period_at o.device s o.last_day) (record { energy = record { 0 = o.energy } })) s.periods; origins = if_any o s (lay_into (entry (first_issued s) (last_issued o s) (record { device = o.device; first_day = o.first_day; last_day = o.last_day })) s.origins) s.origins; standings = if_any o s (lay_into (entry (first_issued s) (last_issued o s) (Held (account_from o.account))) s.standings) s.standings; offers = s.offers; cancellations = s.cancellations }

@@ -48,8 +48,8 @@ fault_of c s = first_fault (checks_of c s)
 
 -- by the fault, if there is one: what is booked, or all as it was
 abbrev pub settled : {X : Type 0} → Option Fault → X → X → X
-settled None booked as-found = booked
-settled (Some fault) booked as-found = as-found
+settled None booked as_found = booked
+settled (Some fault) booked as_found = as_found
 
 -- a call out of turn is not made
 abbrev pub step : Call → State → State

@@ -38,5 +38,5 @@ digit_next out rest place byte some within is =
 -- all are in place
 pub digits_end : (out : List ℕ) (rest place : ℕ) → place ≤ 0 → out ≡ digits place rest ++ drop place out
 digits_end out rest place none =
-    let at-start : 0 ≡ place = omega arith in
-    ap (λ xs. xs ++ out) (sym (digits_none rest)) ∙ ap (λ p. digits p rest ++ drop p out) at-start
+    let at_start : 0 ≡ place = omega arith in
+    ap (λ xs. xs ++ out) (sym (digits_none rest)) ∙ ap (λ p. digits p rest ++ drop p out) at_start
