@@ -29,13 +29,14 @@ BY_HAND = {
     "offered-numbers": "numbers_offered",
     "free-checks": "checks_of_free",
     "slot-checks": "checks_of_slots",
+    "row-free": "free_row",
     # a sample's name, in a crate that does not see the definition
     "valid-until": "valid_until",
 }
 # names under which a file imports a word, and parameters
 OTHERS = ["totalsIn", "expiredBy", "loweredBy", "overdueBy", "isFull", "isBad"]
 # a lemma that would have its definition's name
-LEMMAS = """account-known change-answer device-known found-at is-equal issue-of lay-answer lowered-all or-next row-free
+LEMMAS = """account-known change-answer device-known found-at is-equal issue-of lay-answer lowered-all or-next
 under-offer""".split()
 
 

@@ -110,8 +110,8 @@ holds_all h s maps a f l lawful held =
       each = λ n le ge. held_is a (status h n) (ap (passes (held_by a)) (sym (maps.standings n)) ∙ walked n le ge);
     }
 
-row_free_lem : {X : Type 0} (made : ℕ) (rows : List X) (b : Bool) → b ≡ ltb made (room rows) → b ≡ true → made < length rows
-row_free_lem made rows b is t = omega (arith, ltb-true made (room rows) (sym is ∙ t))
+free_row : {X : Type 0} (made : ℕ) (rows : List X) (b : Bool) → b ≡ ltb made (room rows) → b ≡ true → made < length rows
+free_row made rows b is t = omega (arith, ltb-true made (room rows) (sym is ∙ t))
 
 -- a declaration
 pub record DeclaresOn (h : History) (o : Declare) (s : State) : Type 0 where
@@ -179,7 +179,7 @@ offer_passed h o s maps rows none =
         held = holds_all h s maps (account_from o.from) o.first o.last numbers.0 all.1.1.1.1.0;
       };
       sender = sender;
-      slot = row_free_lem s.offered s.offers _ refl (test_passed (ltb s.offered (room s.offers)) (Full table.Offers) all.1.1.1.1.1.0);
+      slot = free_row s.offered s.offers _ refl (test_passed (ltb s.offered (room s.offers)) (Full table.Offers) all.1.1.1.1.1.0);
     }
 
 -- a cancellation
@@ -198,7 +198,7 @@ cancellation_passed h o s maps rows none =
         account = sym (account_known_lem h s rows (account_from o.account)) ∙ account_there (account_from o.account) s all.1.0;
         held = holds_all h s maps (account_from o.account) o.first o.last numbers.0 all.1.1.0;
       };
-      slot = row_free_lem s.cancelled s.cancellations _ refl (test_passed (ltb s.cancelled (room s.cancellations)) (Full table.Cancellations) all.1.1.1.0);
+      slot = free_row s.cancelled s.cancellations _ refl (test_passed (ltb s.cancelled (room s.cancellations)) (Full table.Cancellations) all.1.1.1.0);
     }
 
 -- the offer that is answered

@@ -56,7 +56,7 @@ ledger_without_devices = record { capacity = 0; members = [] }
 
 -- an offer or a cancellation of these numbers finds a slot for its record and for its cuts
 pub record Fits (used slots : ℕ) (first last : ℕ) (standings : RangeMap Standing) : Type 0 where
-  pub row_free_lem : used < slots
+  pub free_row : used < slots
   pub few : used < 99_999_999
   pub change_fits : change_answer Standings (slots_of standings) first last (in_use standings) ≡ Ok tt
 

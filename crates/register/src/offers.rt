@@ -1,5 +1,5 @@
 // Offers: numbers that one account holds are set aside for another.
-ghost use Rattle.std.specs.Prelude.{◌≡◌, true, false, length, set, is_ok, slice_set};
+ghost use Rattle.std.specs.Prelude.{◌≡◌, true, false, length, is_ok, slice_set};
 ghost use Rattle.order_file.specs.Checked.{plain_offer};
 ghost use Rattle.register.specs.Bookings.{change_in, offer_of, offering};
 ghost use Rattle.register.specs.Checks.{offer_checks};

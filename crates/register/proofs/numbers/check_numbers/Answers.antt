@@ -40,5 +40,5 @@ returns c =
       judged = judged_ok tt
           (pass c.in_ok-check_held.ensures.verdict (pass c.in_ok-check_row.ensures.verdict
           (pass (change_fits (slots_of c.args.standings.now) f l m c.check_change.result c.check_change.ensures.reply good covered c.in_ok-check_change.was) end)))
-          (record { row_free_lem = c.in_ok-check_row.ensures.free; few = c.in_ok-check_row.ensures.few; change_fits = sym c.in_ok-check_change.ensures.reply });
+          (record { free_row = c.in_ok-check_row.ensures.free; few = c.in_ok-check_row.ensures.few; change_fits = sym c.in_ok-check_change.ensures.reply });
     }
