@@ -6,7 +6,7 @@ ghost use Rattle.std.specs.Prelude.{◌≡◌, ◌<◌, false, [], length, take,
 ghost use Rattle.range_map.specs.Halving.{place};
 ghost use Rattle.range_map.specs.Laws.{Covering, CutLosesNothing, FirstOpen, FirstTaken, PlainChange, PlainLay, PlainRepay, RunsAtMost, SizesCountPositions};
 ghost use Rattle.range_map.specs.Map.{change_answer, entry_of, in_use, lay_answer, nth, repaid_at, slots_of};
-ghost use Rattle.range_map.specs.Placed.{changed, found, laid, payload_found, taken};
+ghost use Rattle.range_map.specs.Placed.{changed, found, laid, payload_found, rest, taken};
 ghost use Rattle.range_map.specs.Plain.{Rising, at, bad, gap, payload_at};
 ghost use Rattle.range_map.specs.Replies.{plain_change, plain_lay};
 
@@ -60,6 +60,15 @@ impl<'a, P: Payload> RangeMap<'a, P> {
         ensures place { result ≡ place position (in_use self.now) }
     {
         find(self.entries(), position)
+    }
+
+    // The entries from the first that ends at the position or past it on: what a walk passes.
+    pub fn entries_from(&self, position: u64) -> &[Entry<P>]
+        ensures rest { result.now ≡ rest position (in_use self.now) }
+    {
+        let entries = self.entries();
+        let from = find(entries, position);
+        &entries[from..]
     }
 
     // The number of entries in use.

@@ -16,19 +16,19 @@ ghost use Rattle.register.specs.declared.answers.OfferCall.TheVariants as offerC
 ghost use Rattle.register.specs.declared.rows.Offer.{Offer as OfferRow};
 ghost use Rattle.register.specs.declared.rows.OfferState.TheVariants as inThe;
 
-use crate::checks::check_account;
-use crate::counts::{GivenBack, UnderOffer, count_picked, is_under_offer};
+use crate::checks::check_member;
+use crate::counts::{count_picked, is_given_back};
 use crate::day::{DayFigures, OpenDay};
 use crate::faults::Fault;
 use crate::holdings::is_account;
-use crate::remakes::{Acceptance, Recall, remake_all};
-use crate::rows::{Offer, OfferState, Origin, Standing};
+use crate::remakes::{accepted, recalled, remake_all};
+use crate::rows::{Offer, OfferState, Standing};
 use crate::tables::Tables;
-use crate::terms::overdue;
+use crate::terms::Today;
 use books::{Book, Change, Posting, post, post_both};
 use figures::{Account, Device, MAX_MEMBERS};
 use order_file::{AcceptOffer, OfferAnswer, RecallOffer};
-use range_map::{Entry, RangeMap};
+use range_map::Entry;
 
 #[derive(Clone, Copy)]
 pub(crate) enum OfferCall {
@@ -43,8 +43,7 @@ fn answer_offer(offer: &mut Offer, call: OfferCall)
     match (offer.state, call) {
         (OfferState::Open, OfferCall::Accept) => offer.state = OfferState::Accepted,
         (OfferState::Open, OfferCall::Recall) => offer.state = OfferState::Recalled,
-        (OfferState::Accepted, _) => {}
-        (OfferState::Recalled, _) => {}
+        (OfferState::Accepted | OfferState::Recalled, _) => {}
     }
 }
 
@@ -52,10 +51,11 @@ fn answer_offer(offer: &mut Offer, call: OfferCall)
 fn find_offer(offers: &[Offer], made: u32, number: u32) -> Option<Offer>
     ensures found { result ≡ offer_at number made offers.now }
 {
-    if number == 0 || number > made || number as usize > offers.len().min(MAX_MEMBERS) {
+    if number > made || number as usize > MAX_MEMBERS {
         return None;
     }
-    Some(offers[number as usize - 1])
+    let row = number.checked_sub(1)?;
+    offers.get(row as usize).copied()
 }
 
 // The receiver accepts, the sender recalls.
@@ -78,23 +78,17 @@ fn check_open(state: OfferState) -> Result<(), Fault>
 {
     match state {
         OfferState::Open => Ok(()),
-        OfferState::Accepted => Err(Fault::OfferClosed { state }),
-        OfferState::Recalled => Err(Fault::OfferClosed { state }),
+        OfferState::Accepted | OfferState::Recalled => Err(Fault::OfferClosed { state }),
     }
 }
 
-fn overdue_under(
-    origins: &RangeMap<'_, Origin>,
-    date: u32,
-    offer: u32,
-    entry: Entry<Standing>,
-) -> Option<u32>
-    ensures overdue { result ≡ overdue_under offer date (in_use origins.now) entry }
+fn overdue_under(today: Today<'_, '_>, offer: u32, entry: Entry<Standing>) -> Option<u32>
+    ensures overdue { result ≡ overdue_under offer today.entry.date (in_use today.entry.origins.now) entry }
 {
-    if !is_under_offer(entry, offer) {
+    if !entry.payload.is_offered_under(offer) {
         return None;
     }
-    overdue(origins, date, entry.first)
+    today.overdue(entry.first)
 }
 
 // In the row of its number.
@@ -107,16 +101,11 @@ fn answer_in(offers: &mut [Offer], number: u32, call: OfferCall)
 }
 
 // No entry under the offer is past its term, or else the first that is.
-fn check_in_term(
-    origins: &RangeMap<'_, Origin>,
-    date: u32,
-    offer: u32,
-    entries: &[Entry<Standing>],
-) -> Result<(), Fault>
-    ensures verdict { fault_in result ≡ past_term (first_overdue offer date (in_use origins.now) entries.now) }
+fn check_in_term(today: Today<'_, '_>, offer: u32, entries: &[Entry<Standing>]) -> Result<(), Fault>
+    ensures verdict { fault_in result ≡ past_term (first_overdue offer today.entry.date (in_use today.entry.origins.now) entries.now) }
 {
     for entry in entries {
-        if let Some(last_valid) = overdue_under(origins, date, offer, *entry) {
+        if let Some(last_valid) = overdue_under(today, offer, *entry) {
             return Err(Fault::PastTerm {
                 last_valid,
                 number: entry.first,
@@ -138,7 +127,7 @@ fn judge_answer<AccountBook: Book<Account>>(
     ensures on_record { IfOk result (λ f. offer_at answer.offer made offers.now ≡ Some f) }
     ensures open { IfOk result (λ f. f.state ≡ inThe.Open) }
 {
-    check_account(accounts, answer.account)?;
+    check_member(accounts, answer.account)?;
     let Some(offer) = find_offer(offers, made, answer.offer) else {
         return Err(Fault::NoSuchOffer {
             offer: answer.offer,
@@ -165,8 +154,9 @@ fn book_acceptance<AccountBook: Book<Account>>(
     ensures origins_stay { tables.new.origins ≡ tables.old.origins }
     ensures cancellations_stay { tables.new.cancellations ≡ tables.old.cancellations }
 {
-    let under_offer = UnderOffer { offer: number };
-    let count = count_picked(tables.standings.entries(), &under_offer);
+    let count = count_picked(tables.standings.entries(), |entry| {
+        entry.payload.is_offered_under(number)
+    });
     post_both(
         accounts,
         Posting {
@@ -180,11 +170,9 @@ fn book_acceptance<AccountBook: Book<Account>>(
             second: Change::Up(0),
         },
     );
-    let acceptance = Acceptance {
-        offer: number,
-        to: offer.to,
-    };
-    remake_all(&mut tables.standings, &acceptance);
+    remake_all(&mut tables.standings, |entry| {
+        accepted(entry, number, offer.to)
+    });
     answer_in(tables.offers, number, OfferCall::Accept);
 }
 
@@ -205,14 +193,16 @@ fn book_recall<AccountBook: Book<Account>>(
     ensures origins_stay { tables.new.origins ≡ tables.old.origins }
     ensures cancellations_stay { tables.new.cancellations ≡ tables.old.cancellations }
 {
-    let given_back = GivenBack {
-        offer: number,
+    let today = Today {
         date,
         origins: &tables.origins,
     };
-    let back = count_picked(tables.standings.entries(), &given_back);
-    let under_offer = UnderOffer { offer: number };
-    let count = count_picked(tables.standings.entries(), &under_offer);
+    let back = count_picked(tables.standings.entries(), |entry| {
+        is_given_back(entry, number, today)
+    });
+    let count = count_picked(tables.standings.entries(), |entry| {
+        entry.payload.is_offered_under(number)
+    });
     post(
         accounts,
         Posting {
@@ -221,13 +211,9 @@ fn book_recall<AccountBook: Book<Account>>(
             second: Change::Down(count),
         },
     );
-    let recall = Recall {
-        offer: number,
-        from: offer.from,
-        date,
-        origins: &tables.origins,
-    };
-    remake_all(&mut tables.standings, &recall);
+    remake_all(&mut tables.standings, |entry| {
+        recalled(entry, number, offer.from, today)
+    });
     answer_in(tables.offers, number, OfferCall::Recall);
 }
 
@@ -250,12 +236,11 @@ fn judge_acceptance<AccountBook: Book<Account>>(
         answer,
         OfferCall::Accept,
     )?;
-    check_in_term(
-        &tables.origins,
-        day.date,
-        answer.offer,
-        tables.standings.entries(),
-    )?;
+    let today = Today {
+        date: day.date,
+        origins: &tables.origins,
+    };
+    check_in_term(today, answer.offer, tables.standings.entries())?;
     Ok(offer)
 }
 
@@ -271,14 +256,13 @@ fn judge_recall<AccountBook: Book<Account>>(
     ensures open { IfOk result (λ f. f.state ≡ inThe.Open) }
 {
     let answer = order.check()?;
-    let offer = judge_answer(
+    judge_answer(
         accounts,
         tables.offers,
         day.offers,
         answer,
         OfferCall::Recall,
-    )?;
-    Ok(offer)
+    )
 }
 
 impl OpenDay {

@@ -6,7 +6,7 @@ ghost use Rattle.register.specs.Checks.{cancellation_checks};
 ghost use Rattle.register.specs.Settled.{map_of, state_of, ledger_without_devices, Judged, Fits, Settles, next_serial};
 ghost use Rattle.register.specs.declared.rows.Standing.TheVariants.{Cancelled};
 
-use crate::checks::check_account;
+use crate::checks::check_member;
 use crate::day::{DayFigures, OpenDay};
 use crate::faults::Fault;
 use crate::numbers::check_numbers;
@@ -27,7 +27,7 @@ impl OpenDay {
         ensures judged { Judged (cancellation_checks order (state_of true self.now.figures (AccountBook.Book.meaning accounts.now) ledger_without_devices tables.now)) (λ t. (plain_cancellation t ≡ order) × Fits self.now.figures.cancellations (length tables.now.cancellations.now) t.numbers.first.0 t.numbers.last.0 tables.now.standings) result }
     {
         let terms = order.check()?;
-        check_account(accounts, terms.account)?;
+        check_member(accounts, terms.account)?;
         check_numbers(
             &tables.standings,
             terms.account,

@@ -4,61 +4,19 @@ ghost use Rattle.figures.specs.Limits.{most_total};
 ghost use Rattle.range_map.specs.Counts.{size};
 ghost use Rattle.range_map.specs.Map.{in_use};
 ghost use Rattle.range_map.specs.declared.entry.Entry.{Entry as EntryOf};
-ghost use Rattle.register.specs.Holdings.{counted, under_offer, given_back};
+ghost use Rattle.register.specs.Holdings.{counted, given_back};
 ghost use Rattle.register.specs.declared.rows.Standing.{Standing as StandingOf};
 
-use crate::rows::{Origin, Standing};
-use crate::terms::lapses;
+use crate::rows::Standing;
+use crate::terms::Today;
 use figures::MAX_TOTAL;
-use range_map::{Entry, RangeMap};
+use range_map::Entry;
 
-// Which entries count.
-pub(crate) trait Pick {
-    ghost picks: { Self → EntryOf StandingOf → Bool };
-
-    fn pick(&self, entry: Entry<Standing>) -> bool
-        ensures picked { result ≡ picks self.now entry };
-}
-
-// The entries under an offer.
-#[derive(Drop)]
-pub(crate) struct UnderOffer {
-    pub(crate) offer: u32,
-}
-
-pub(crate) fn is_under_offer(entry: Entry<Standing>, offer: u32) -> bool
-    ensures under { result ≡ under_offer offer entry }
+// Whether a recall gives the entry back: it is under the offer, and in term.
+pub(crate) fn is_given_back(entry: Entry<Standing>, offer: u32, today: Today<'_, '_>) -> bool
+    ensures given_back { result ≡ given_back offer today.entry.date (in_use today.entry.origins.now) entry }
 {
-    match entry.payload {
-        Standing::Held(_) => false,
-        Standing::Offered(number) => number == offer,
-        Standing::Cancelled(_) => false,
-        Standing::Expired => false,
-    }
-}
-
-impl Pick for UnderOffer {
-    ghost picks = { λ s e. under_offer s.offer e };
-
-    fn pick(&self, entry: Entry<Standing>) -> bool {
-        is_under_offer(entry, self.offer)
-    }
-}
-
-// Those of them that a recall gives back: the ones that are in term.
-#[derive(Drop)]
-pub(crate) struct GivenBack<'a, 'b> {
-    pub(crate) offer: u32,
-    pub(crate) date: u32,
-    pub(crate) origins: &'a RangeMap<'b, Origin>,
-}
-
-impl<'a, 'b> Pick for GivenBack<'a, 'b> {
-    ghost picks = { λ s e. given_back s.offer s.date (in_use s.origins.now) e };
-
-    fn pick(&self, entry: Entry<Standing>) -> bool {
-        is_under_offer(entry, self.offer) && !lapses(self.origins, self.date, entry)
-    }
+    entry.payload.is_offered_under(offer) && !today.lapses(entry)
 }
 
 // How many numbers an entry has, read as at most the limit of totals.
@@ -68,13 +26,17 @@ pub(crate) fn size_of(entry: Entry<Standing>) -> u64
     entry.last.saturating_sub(entry.first).min(MAX_TOTAL - 1) + 1
 }
 
-// The sizes of the entries that count, added up; a sum past the limit of totals reads as that limit.
-pub(crate) fn count_picked<T: Pick>(entries: &[Entry<Standing>], picked: &T) -> u64
-    ensures counted { result ≡ counted (T.Pick.picks picked.now) entries.now }
+// The sizes of the entries that count, added up; a sum past the limit of totals reads as that limit. Told of each test that the calls compute.
+pub(crate) fn count_picked<F: Fn(Entry<Standing>) -> bool>(
+    entries: &[Entry<Standing>],
+    picked: F,
+) -> u64
+    requires callable { F.IsAlwaysCallable picked }
+    ensures counted { (t : EntryOf StandingOf → Bool) → ((e : EntryOf StandingOf) (b : Bool) → F.post picked e b → b ≡ t e) → result ≡ counted t entries.now }
 {
     let mut total: u64 = 0;
     for entry in entries {
-        if picked.pick(*entry) {
+        if picked(*entry) {
             total = (total + size_of(*entry)).min(MAX_TOTAL);
         }
     }

@@ -12,14 +12,14 @@ ghost use Rattle.register.specs.declared.faults.Fault.TheVariants as fault;
 use crate::counts::size_of;
 use crate::day::{ClosedDay, DayFigures, OpenDay};
 use crate::faults::Fault;
-use crate::remakes::{Expiry, remake_all};
-use crate::rows::{Origin, Standing};
+use crate::remakes::{expired, remake_all};
+use crate::rows::Standing;
 use crate::tables::Tables;
-use crate::terms::lapses;
+use crate::terms::Today;
 use books::{Book, Change, Posting, post};
 use figures::{Account, Device, LAST_DAY};
 use order_file::NewDay;
-use range_map::{Entry, RangeMap};
+use range_map::Entry;
 
 // A later date, and a working day.
 fn check_date(today: u32, date: u32) -> Result<(), Fault>
@@ -39,30 +39,26 @@ fn lower_holder<AccountBook: Book<Account>>(
 )
     ensures lowered { AccountBook.Book.meaning accounts.new ≡ lowered_by standing expiring (AccountBook.Book.meaning accounts.old) }
 {
-    match standing {
-        Standing::Held(holder) => post(
+    if let Standing::Held(holder) = standing {
+        post(
             accounts,
             Posting {
                 key: holder,
                 first: Change::Down(expiring),
                 second: Change::Up(0),
             },
-        ),
-        Standing::Offered(_) => {}
-        Standing::Cancelled(_) => {}
-        Standing::Expired => {}
+        );
     }
 }
 
 fn lower_if_lapsed<AccountBook: Book<Account>>(
     accounts: &mut AccountBook,
-    origins: &RangeMap<'_, Origin>,
-    date: u32,
+    today: Today<'_, '_>,
     entry: Entry<Standing>,
 )
-    ensures lowered { AccountBook.Book.meaning accounts.new ≡ lowered_for date (in_use origins.now) entry (AccountBook.Book.meaning accounts.old) }
+    ensures lowered { AccountBook.Book.meaning accounts.new ≡ lowered_for today.entry.date (in_use today.entry.origins.now) entry (AccountBook.Book.meaning accounts.old) }
 {
-    if lapses(origins, date, entry) {
+    if today.lapses(entry) {
         lower_holder(accounts, entry.payload, size_of(entry));
     }
 }
@@ -70,14 +66,13 @@ fn lower_if_lapsed<AccountBook: Book<Account>>(
 // Entry by entry, since each has its own holder.
 fn lower_all<AccountBook: Book<Account>>(
     accounts: &mut AccountBook,
-    origins: &RangeMap<'_, Origin>,
-    date: u32,
+    today: Today<'_, '_>,
     entries: &[Entry<Standing>],
 )
-    ensures lowered { AccountBook.Book.meaning accounts.new ≡ lowered_all date (in_use origins.now) entries.now (AccountBook.Book.meaning accounts.old) }
+    ensures lowered { AccountBook.Book.meaning accounts.new ≡ lowered_all today.entry.date (in_use today.entry.origins.now) entries.now (AccountBook.Book.meaning accounts.old) }
 {
     for entry in entries {
-        lower_if_lapsed(accounts, origins, date, *entry);
+        lower_if_lapsed(accounts, today, *entry);
     }
 }
 
@@ -94,12 +89,12 @@ fn expire<AccountBook: Book<Account>>(
     ensures offers_stay { tables.new.offers ≡ tables.old.offers }
     ensures cancellations_stay { tables.new.cancellations ≡ tables.old.cancellations }
 {
-    lower_all(accounts, &tables.origins, date, tables.standings.entries());
-    let expiry = Expiry {
+    let today = Today {
         date,
         origins: &tables.origins,
     };
-    remake_all(&mut tables.standings, &expiry);
+    lower_all(accounts, today, tables.standings.entries());
+    remake_all(&mut tables.standings, |entry| expired(entry, today));
 }
 
 impl ClosedDay {
@@ -124,9 +119,7 @@ impl ClosedDay {
         Ok(OpenDay {
             figures: DayFigures {
                 date: order.date,
-                last_number: figures.last_number,
-                offers: figures.offers,
-                cancellations: figures.cancellations,
+                ..figures
             },
         })
     }

@@ -11,7 +11,7 @@ ghost use Rattle.register.specs.Settled.{Judged, Settles, issued_count, map_of, 
 ghost use Rattle.register.specs.State.{is_account};
 ghost use Rattle.register.specs.declared.rows.Standing.TheVariants.{Held};
 
-use crate::checks::{check_account, check_device};
+use crate::checks::check_member;
 use crate::day::OpenDay;
 use crate::faults::Fault;
 use crate::issues::Issue;
@@ -52,8 +52,8 @@ impl OpenDay {
         ensures judged { Judged (declaration_checks order (state_of true self.now.figures (AccountBook.Book.meaning accounts.now) (DeviceBook.Book.meaning devices.now) tables.now)) (Reckoned order (state_of true self.now.figures (AccountBook.Book.meaning accounts.now) (DeviceBook.Book.meaning devices.now) tables.now) tables.now) result }
     {
         let declaration = order.check()?;
-        check_device(devices, declaration.device)?;
-        check_account(accounts, declaration.account)?;
+        check_member(devices, declaration.device)?;
+        check_member(accounts, declaration.account)?;
         check_days(self.figures.date, declaration.days.last)?;
         let issue = Issue::of(devices, self.figures.last_number, declaration);
         check_places(tables, issue)?;
@@ -96,7 +96,7 @@ fn lay_down(tables: &mut Tables<'_>, declaration: Declaration, issue: Issue)
     let _ = tables
         .periods
         .lay(issue.period_first, issue.period_last, Period { energy });
-    if issue.count.0 > 0 {
+    if issue.is_issuing() {
         let origin = Origin {
             device: declaration.device.digits(),
             first_day: declaration.days.first,

@@ -3,13 +3,13 @@ ghost use Rattle.std.specs.Prelude.{◌≡◌};
 ghost use Rattle.range_map.specs.Map.{in_use};
 ghost use Rattle.register.specs.Checks.{not_held_at};
 ghost use Rattle.register.specs.Faults.{fault_in};
-ghost use Rattle.register.specs.Holdings.{held_by, unheld};
+ghost use Rattle.register.specs.Holdings.{gap_by, held_by, unheld};
 ghost use Rattle.register.specs.State.{is_account};
 
 use crate::faults::Fault;
 use crate::rows::Standing;
 use figures::Account;
-use range_map::RangeMap;
+use range_map::{Entry, RangeMap};
 
 // The order of accounts answers Equal of the same account only.
 pub(crate) fn is_account(one: Account, other: Account) -> bool
@@ -18,18 +18,28 @@ pub(crate) fn is_account(one: Account, other: Account) -> bool
     one.compare(&other).is_eq()
 }
 
-pub(crate) fn is_held_by(standing: Standing, account: Account) -> bool
-    ensures held { result ≡ held_by account standing }
+// The first of the numbers that the account does not hold, along entries where a walk begins.
+fn first_unheld(entries: &[Entry<Standing>], account: Account, first: u64, last: u64) -> Option<u64>
+    ensures unheld { result ≡ gap_by (held_by account) first last entries.now }
 {
-    match standing {
-        Standing::Held(holder) => is_account(account, holder),
-        Standing::Offered(_) => false,
-        Standing::Cancelled(_) => false,
-        Standing::Expired => false,
+    let mut number = first;
+    for entry in entries {
+        if entry.last < number {
+            continue;
+        }
+        if number < entry.first || !entry.payload.is_held_by(account) {
+            return Some(number);
+        }
+        if entry.last >= last {
+            return None;
+        }
+        number = entry.last + 1;
     }
+    Some(number)
 }
 
 // Every number from the first to the last is held by the account, or else the first that is not.
+#[tactic(auto, unfolding(crate::specs::Holdings::unheld))]
 pub(crate) fn check_held(
     standings: &RangeMap<'_, Standing>,
     account: Account,
@@ -38,21 +48,8 @@ pub(crate) fn check_held(
 ) -> Result<(), Fault>
     ensures verdict { fault_in result ≡ not_held_at (unheld account first last (in_use standings.now)) }
 {
-    let mut number = first;
-    for i in standings.index_of(first)..standings.count() {
-        let Some(entry) = standings.entry(i) else {
-            return Err(Fault::NotHeld { number });
-        };
-        if entry.last < number {
-            continue;
-        }
-        if number < entry.first || !is_held_by(entry.payload, account) {
-            return Err(Fault::NotHeld { number });
-        }
-        if entry.last >= last {
-            return Ok(());
-        }
-        number = entry.last + 1;
+    match first_unheld(standings.entries_from(first), account, first, last) {
+        Some(number) => Err(Fault::NotHeld { number }),
+        None => Ok(()),
     }
-    Err(Fault::NotHeld { number })
 }

@@ -57,10 +57,17 @@ impl Issue {
         }
     }
 
+    // Whether certificates result.
+    pub(crate) fn is_issuing(self) -> bool
+        ensures issuing { result ≡ issuing self }
+    {
+        self.count.0 > 0
+    }
+
     // The last number of the register afterwards: where nothing is issued it stays.
     pub(crate) fn last_after(self, before: CertificateNumber) -> CertificateNumber
         ensures last { result.0 ≡ (if issuing self then self.last.0 else before.0) }
     {
-        if self.count.0 > 0 { self.last } else { before }
+        if self.is_issuing() { self.last } else { before }
     }
 }

@@ -6,7 +6,7 @@ ghost use Rattle.register.specs.Checks.{offer_checks};
 ghost use Rattle.register.specs.Settled.{map_of, state_of, ledger_without_devices, Judged, Fits, Settles, next_offer};
 ghost use Rattle.register.specs.declared.rows.Standing.TheVariants.{Offered};
 
-use crate::checks::check_account;
+use crate::checks::check_member;
 use crate::day::OpenDay;
 use crate::faults::Fault;
 use crate::holdings::is_account;
@@ -33,8 +33,8 @@ impl OpenDay {
                 account: terms.from,
             });
         }
-        check_account(accounts, terms.from)?;
-        check_account(accounts, terms.to)?;
+        check_member(accounts, terms.from)?;
+        check_member(accounts, terms.to)?;
         check_numbers(
             &tables.standings,
             terms.from,

@@ -2,7 +2,7 @@
 ghost use Rattle.std.specs.Prelude.{◌≡◌, ◌+◌, ◌^◌, ◌<◌, ◌≤◌, ◌++◌};
 ghost use Rattle.register.specs.Checks.{meets, has_slot};
 ghost use Rattle.register.specs.Faults.{fault_in, first_fault};
-ghost use Rattle.register.specs.Issues.{Finds, free_checks, if_needed, issuing, slot_checks};
+ghost use Rattle.register.specs.Issues.{Finds, free_checks, slot_checks};
 ghost use Rattle.register.specs.Settled.{Judged, map_of};
 
 use crate::faults::Fault;
@@ -11,29 +11,21 @@ use crate::tables::Tables;
 use figures::MAX_CERTIFICATE_NUMBER;
 use range_map::{MapFault, Payload, RangeMap};
 
-// The range meets no entry, where it is to be laid down at all.
-fn check_free<P: Payload>(
-    map: &RangeMap<'_, P>,
-    needed: bool,
-    first: u64,
-    last: u64,
-) -> Result<(), Fault>
-    ensures verdict { fault_in result ≡ if_needed needed (meets first last (map_of map.now)) }
+// The range meets no entry.
+fn check_free<P: Payload>(map: &RangeMap<'_, P>, first: u64, last: u64) -> Result<(), Fault>
+    ensures verdict { fault_in result ≡ meets first last (map_of map.now) }
 {
-    if !needed {
-        return Ok(());
-    }
     match map.taken(first, last) {
         Some(first) => Err(Fault::from(MapFault::Taken { first })),
         None => Ok(()),
     }
 }
 
-// The map has a slot for one entry more, where one is to be laid down.
-fn check_slot<P: Payload>(map: &RangeMap<'_, P>, needed: bool) -> Result<(), Fault>
-    ensures verdict { fault_in result ≡ if_needed needed (has_slot P.Payload.home (map_of map.now)) }
+// The map has a slot for one entry more.
+fn check_slot<P: Payload>(map: &RangeMap<'_, P>) -> Result<(), Fault>
+    ensures verdict { fault_in result ≡ has_slot P.Payload.home (map_of map.now) }
 {
-    if needed && map.full() {
+    if map.full() {
         return Err(Fault::from(MapFault::Full {
             table: P::in_table(),
         }));
@@ -41,16 +33,16 @@ fn check_slot<P: Payload>(map: &RangeMap<'_, P>, needed: bool) -> Result<(), Fau
     Ok(())
 }
 
+// Numbers are looked at only where certificates result.
 fn check_all_free(tables: &Tables<'_>, issue: Issue) -> Result<(), Fault>
     ensures verdict { fault_in result ≡ first_fault (free_checks issue (map_of tables.now.periods) (map_of tables.now.origins) (map_of tables.now.standings)) }
 {
-    let issuing = issue.count.0 > 0;
-    let first = issue.first.0;
-    let last = issue.last.0;
-    check_free(&tables.periods, true, issue.period_first, issue.period_last)?;
-    check_free(&tables.origins, issuing, first, last)?;
-    check_free(&tables.standings, issuing, first, last)?;
-    if last > MAX_CERTIFICATE_NUMBER {
+    check_free(&tables.periods, issue.period_first, issue.period_last)?;
+    if issue.is_issuing() {
+        check_free(&tables.origins, issue.first.0, issue.last.0)?;
+        check_free(&tables.standings, issue.first.0, issue.last.0)?;
+    }
+    if issue.last.0 > MAX_CERTIFICATE_NUMBER {
         return Err(Fault::NumbersExhausted {
             wanted: issue.count.0,
         });
@@ -61,10 +53,11 @@ fn check_all_free(tables: &Tables<'_>, issue: Issue) -> Result<(), Fault>
 fn check_slots(tables: &Tables<'_>, issue: Issue) -> Result<(), Fault>
     ensures verdict { fault_in result ≡ first_fault (slot_checks issue (map_of tables.now.periods) (map_of tables.now.origins) (map_of tables.now.standings)) }
 {
-    let issuing = issue.count.0 > 0;
-    check_slot(&tables.periods, true)?;
-    check_slot(&tables.origins, issuing)?;
-    check_slot(&tables.standings, issuing)?;
+    check_slot(&tables.periods)?;
+    if issue.is_issuing() {
+        check_slot(&tables.origins)?;
+        check_slot(&tables.standings)?;
+    }
     Ok(())
 }
 

@@ -1,6 +1,9 @@
 // What the tables hold.
+ghost use Rattle.std.specs.Prelude.{◌≡◌};
 ghost use Rattle.figures.specs.declared.names.Table.TheVariants.{Periods, Origins, Standings};
+ghost use Rattle.register.specs.Holdings.{held_by, is_held, offered_under};
 
+use crate::holdings::is_account;
 use figures::{Account, CertificateNumber, Table, WattHours};
 use range_map::Payload;
 
@@ -47,6 +50,26 @@ pub enum Standing {
     // under a cancellation's serial
     Cancelled(u32),
     Expired,
+}
+
+impl Standing {
+    pub(crate) fn is_held(self) -> bool
+        ensures held { result ≡ is_held self }
+    {
+        matches!(self, Standing::Held(_))
+    }
+
+    pub(crate) fn is_held_by(self, account: Account) -> bool
+        ensures held { result ≡ held_by account self }
+    {
+        matches!(self, Standing::Held(holder) if is_account(account, holder))
+    }
+
+    pub(crate) fn is_offered_under(self, offer: u32) -> bool
+        ensures under { result ≡ offered_under offer self }
+    {
+        matches!(self, Standing::Offered(number) if number == offer)
+    }
 }
 
 impl Payload for Standing {

@@ -9,21 +9,26 @@ use crate::rows::{Origin, Standing};
 use calendar::last_valid_day;
 use range_map::{Entry, RangeMap};
 
-// The last valid day of a number that is past its term on that date; one without an origin is in term.
-pub(crate) fn overdue(origins: &RangeMap<'_, Origin>, date: u32, number: u64) -> Option<u32>
-    ensures overdue { result ≡ overdue_by date (payload_found number (in_use origins.now)) }
-{
-    let origin = origins.get(number)?;
-    let last_valid = last_valid_day(origin.last_day);
-    if last_valid < date {
-        return Some(last_valid);
-    }
-    None
+// A date, and the origins by which it is told what is past its term then.
+#[derive(Clone, Copy)]
+pub(crate) struct Today<'a, 'b> {
+    pub(crate) date: u32,
+    pub(crate) origins: &'a RangeMap<'b, Origin>,
 }
 
-// An entry's term is that of its first number.
-pub(crate) fn lapses(origins: &RangeMap<'_, Origin>, date: u32, entry: Entry<Standing>) -> bool
-    ensures lapsed { result ≡ entry_lapsed date (in_use origins.now) entry }
-{
-    overdue(origins, date, entry.first).is_some()
+impl Today<'_, '_> {
+    // The last valid day of a number that is past its term; one without an origin is in term.
+    pub(crate) fn overdue(self, number: u64) -> Option<u32>
+        ensures overdue { result ≡ overdue_by self.entry.date (payload_found number (in_use self.entry.origins.now)) }
+    {
+        let origin = self.origins.get(number)?;
+        Some(last_valid_day(origin.last_day)).filter(|last_valid| *last_valid < self.date)
+    }
+
+    // An entry's term is that of its first number.
+    pub(crate) fn lapses(self, entry: Entry<Standing>) -> bool
+        ensures lapsed { result ≡ entry_lapsed self.entry.date (in_use self.entry.origins.now) entry }
+    {
+        self.overdue(entry.first).is_some()
+    }
 }

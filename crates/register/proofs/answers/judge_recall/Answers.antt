@@ -1,22 +1,6 @@
-use Rattle.std.proofs.Common.{Some, None, sym, ap, ◌∙◌}
-use Rattle.std.proofs.lemmas.Result.{err_from_is_err_and}
-use Rattle.register.specs.Answers.{offer_at}
+use Rattle.register.specs.Faults.{fault_in}
 use Rattle.register.proofs.Judging.{recall_by}
 use Rattle.register.proofs.answers.judge_recall.Goals as goal
 
-pub returns-in_err-offer : goal.returns-in_err-offer
-returns-in_err-offer g c =
-    let p = err_from_is_err_and c.from_residual-in_err-offer.result c.from_residual-in_err-offer.ensures.1 in
-    rw (p.1, p.2) record {
-      verdict = λ devices. recall_by c.args.day (g.AccountBook.Book.meaning c.args.accounts.now) devices c.args.tables.now c.in_ok-answer.answer c.args.order (Some c.in_err-offer.field-0.0) c.in_ok-answer.ensures.checked c.in_ok-answer.ensures.refused_at c.in_err-offer.ensures.verdict;
-      on_record = tt;
-      «open» = tt;
-    }
-
-pub returns : goal.returns
-returns g c =
-    record {
-      verdict = λ devices. recall_by c.args.day (g.AccountBook.Book.meaning c.args.accounts.now) devices c.args.tables.now c.in_ok-answer.answer c.args.order None c.in_ok-answer.ensures.checked c.in_ok-answer.ensures.refused_at c.in_ok-offer.ensures.verdict;
-      on_record = ap (λ o. offer_at o.offer c.args.day.offers c.args.tables.now.offers.now) (sym c.in_ok-answer.ensures.checked) ∙ c.in_ok-offer.ensures.on_record;
-      «open» = c.in_ok-offer.ensures.open;
-    }
+pub returns-clause-verdict : goal.returns-clause-verdict
+returns-clause-verdict g c = λ devices. recall_by c.args.day (g.AccountBook.Book.meaning c.args.accounts.now) devices c.args.tables.now c.in_ok-answer.answer c.args.order (fault_in c.judge_answer.result) c.in_ok-answer.ensures.checked c.in_ok-answer.ensures.refused_at c.judge_answer.ensures.verdict

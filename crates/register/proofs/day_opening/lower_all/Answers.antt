@@ -9,9 +9,9 @@ loop-entry-init g c = refl
 
 pub loop-entry-preserved : goal.loop-entry-preserved
 loop-entry-preserved g c =
-    ap (lowered_all c.args.date (in_use c.args.origins.now) (drop (c.loop-entry.entry-index + 1) c.args.entries.now)) c.lower_if_lapsed.ensures.lowered
-    ∙ sym (lowered_on c.args.date (in_use c.args.origins.now) c.args.entries.now c.loop-entry.entry-index _ _ c.loop-entry-test.true)
+    ap (lowered_all c.args.today.date (in_use c.args.today.origins.now) (drop (c.loop-entry.entry-index + 1) c.args.entries.now)) c.lower_if_lapsed.ensures.lowered
+    ∙ sym (lowered_on c.args.today.date (in_use c.args.today.origins.now) c.args.entries.now c.loop-entry.entry-index _ _ c.loop-entry-test.true)
     ∙ c.loop-entry.invariant
 
 pub returns : goal.returns
-returns g c = record { lowered = sym (lowered_end c.args.date (in_use c.args.origins.now) c.args.entries.now c.loop-entry.entry-index _ c.loop-entry-test.false) ∙ c.loop-entry.invariant }
+returns g c = record { lowered = sym (lowered_end c.args.today.date (in_use c.args.today.origins.now) c.args.entries.now c.loop-entry.entry-index _ c.loop-entry-test.false) ∙ c.loop-entry.invariant }

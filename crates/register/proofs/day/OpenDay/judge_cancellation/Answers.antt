@@ -14,6 +14,6 @@ returns-in_err-check_numbers g c =
     record {
       judged = judged_err (p.1 ∙ ap Result.Err p.2)
           (subst (λ x. None ≡ bad_at (bad_cancel x) → Reaches (Some f) (cancellation_checks x s)) c.in_ok-terms.ensures.checked
-          (λ lawful. pass lawful (pass (ok_fault c.in_ok-check_account.was c.check_account.ensures.verdict) (known_rest c.in_err-check_numbers.ensures.judged.verdict)))
+          (λ lawful. pass lawful (pass (ok_fault c.in_ok-check_member.was c.check_member.ensures.verdict) (known_rest c.in_err-check_numbers.ensures.judged.verdict)))
           (ok_operand c.in_ok-terms.was c.check.ensures.refused_at));
     }

@@ -13,8 +13,8 @@ returns-in_err-check_days g c =
       judged = judged_err (p.1 ∙ ap Result.Err p.2)
           (days_refused c.args.order c.in_ok-declaration.declaration s c.in_ok-declaration.ensures.checked
           (ok_operand c.in_ok-declaration.was c.check.ensures.refused_at)
-          (ok_fault c.in_ok-check_device.was c.check_device.ensures.verdict)
-          (ok_fault c.in_ok-check_account.was c.check_account.ensures.verdict)
+          (ok_fault c.in_ok-check_member.was c.check_member.ensures.verdict)
+          (ok_fault c.in_ok-check_member-2.was c.check_member-2.ensures.verdict)
           c.in_err-check_days.ensures.verdict);
     }
 
@@ -26,8 +26,8 @@ returns-in_err-check_places g c =
       judged = judged_err (p.1 ∙ ap Result.Err p.2)
           (to_places c.args.order c.in_ok-declaration.declaration s c.in_ok-declaration.ensures.checked c.of-issue.result c.of-issue.ensures.issue
           (ok_operand c.in_ok-declaration.was c.check.ensures.refused_at)
-          (ok_fault c.in_ok-check_device.was c.check_device.ensures.verdict)
-          (ok_fault c.in_ok-check_account.was c.check_account.ensures.verdict)
+          (ok_fault c.in_ok-check_member.was c.check_member.ensures.verdict)
+          (ok_fault c.in_ok-check_member-2.was c.check_member-2.ensures.verdict)
           (ok_fault c.in_ok-check_days.was c.check_days.ensures.verdict)
           (known_rest c.in_err-check_places.ensures.judged.verdict));
     }
@@ -41,8 +41,8 @@ returns g c =
       judged = judged_ok (d, i)
           (to_places c.args.order d s c.in_ok-declaration.ensures.checked i c.of-issue.ensures.issue
           (ok_operand c.in_ok-declaration.was c.check.ensures.refused_at)
-          (ok_fault c.in_ok-check_device.was c.check_device.ensures.verdict)
-          (ok_fault c.in_ok-check_account.was c.check_account.ensures.verdict)
+          (ok_fault c.in_ok-check_member.was c.check_member.ensures.verdict)
+          (ok_fault c.in_ok-check_member-2.was c.check_member-2.ensures.verdict)
           (ok_fault c.in_ok-check_days.was c.check_days.ensures.verdict)
           (known_rest c.in_ok-check_places.ensures.judged.verdict))
           (record {

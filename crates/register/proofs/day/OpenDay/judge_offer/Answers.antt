@@ -14,8 +14,8 @@ returns-in_err-check_numbers g c =
           (to_numbers c.args.order c.in_ok-terms.terms s c.in_ok-terms.ensures.checked
           (ok_operand c.in_ok-terms.was c.check.ensures.refused_at)
           (sym c.is_account.ensures.same ∙ c.if-is_account.false)
-          (ok_fault c.in_ok-check_account.was c.check_account.ensures.verdict)
-          (ok_fault c.in_ok-check_account-2.was c.check_account-2.ensures.verdict)
+          (ok_fault c.in_ok-check_member.was c.check_member.ensures.verdict)
+          (ok_fault c.in_ok-check_member-2.was c.check_member-2.ensures.verdict)
           (known_rest c.in_err-check_numbers.ensures.judged.verdict));
     }
 
@@ -27,8 +27,8 @@ returns g c =
           (to_numbers c.args.order c.in_ok-terms.terms s c.in_ok-terms.ensures.checked
           (ok_operand c.in_ok-terms.was c.check.ensures.refused_at)
           (sym c.is_account.ensures.same ∙ c.if-is_account.false)
-          (ok_fault c.in_ok-check_account.was c.check_account.ensures.verdict)
-          (ok_fault c.in_ok-check_account-2.was c.check_account-2.ensures.verdict)
+          (ok_fault c.in_ok-check_member.was c.check_member.ensures.verdict)
+          (ok_fault c.in_ok-check_member-2.was c.check_member-2.ensures.verdict)
           (known_rest c.in_ok-check_numbers.ensures.judged.verdict))
           (c.in_ok-terms.ensures.checked, c.in_ok-check_numbers.ensures.judged.ready);
     }
