@@ -47,6 +47,7 @@ impl Account {
 
     // The order of accounts. It is total: of any two accounts exactly one of less, equal
     // and greater holds, equal only of the same account, and less is transitive.
+    #[tactic(auto, using(crate::proofs::Derived::account_cmp, crate::proofs::Orders::account_order_total))]
     pub fn compare(&self, other: &Account) -> Ordering
         ensures answer { result ≡ account_order self.now other.now }
         ensures total { TotalOrder account_order }
