@@ -1,6 +1,6 @@
 -- What a book means: a capacity, and its members in the order in which they joined. Assumes nothing.
 use Rattle.std.specs.Prelude.{ℕ, ◌+◌, min, Bool, true, false, cond, not, ◌&&◌, List, [], ◌∷◌, ◌++◌, length, Some, None, Option, nat_lt}
-use Rattle.std.specs.declared.cmp.Ordering.TheVariants.{Less, Equal, Greater}
+use Rattle.std.specs.Ordering.{is_eq}
 use Rattle.std.specs.declared.cmp.Ordering.{Ordering}
 use Rattle.figures.specs.Limits.{most_total, most_members}
 
@@ -16,9 +16,7 @@ pub record Ledger (P : Type 0) : Type 0 where
 
 -- A comparison that answers Equal
 abbrev pub is_equal : Ordering → Bool
-is_equal Less = false
-is_equal Equal = true
-is_equal Greater = false
+is_equal = is_eq
 
 -- the test whether a key is k
 abbrev pub matches : {P : Type 0} → (P → P → Ordering) → P → P → Bool

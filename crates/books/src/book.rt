@@ -13,17 +13,17 @@ pub trait Book<K: Key> {
 
     // The key joins last, with totals 0, and its running number is answered.
     fn add(&mut self, key: K) -> Result<u64, BookFault>
-        ensures answer { result ≡ add_answer K.Key.named (matches K.Key.order (K.Key.plain key)) (meaning self.old) }
+        ensures answer { result ≡ add_answer K.Key.BOOK (matches K.Key.order (K.Key.plain key)) (meaning self.old) }
         ensures after { meaning self.new ≡ add_after (matches K.Key.order (K.Key.plain key)) (K.Key.plain key) (meaning self.old) }
         ensures refusal_leaves_all { is_ok result ≡ false → self.new ≡ self.old };
 
     // Whether `add` would be refused, and why.
     fn vet_add(&self, key: K) -> Result<(), BookFault>
-        ensures verdict { result ≡ add_verdict K.Key.named (matches K.Key.order (K.Key.plain key)) (meaning self.now) };
+        ensures verdict { result ≡ add_verdict K.Key.BOOK (matches K.Key.order (K.Key.plain key)) (meaning self.now) };
 
     // The member of this key gets these totals, each read as at most its limit.
     fn write_totals(&mut self, key: K, first: u64, second: u64) -> Result<(), BookFault>
-        ensures answer { result ≡ write_verdict K.Key.named (matches K.Key.order (K.Key.plain key)) (meaning self.old) }
+        ensures answer { result ≡ write_verdict K.Key.BOOK (matches K.Key.order (K.Key.plain key)) (meaning self.old) }
         ensures after { meaning self.new ≡ write_after (matches K.Key.order (K.Key.plain key)) first second (meaning self.old) }
         ensures refusal_leaves_all { is_ok result ≡ false → self.new ≡ self.old };
 

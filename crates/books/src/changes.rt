@@ -4,7 +4,7 @@ ghost use Rattle.books.specs.Changes.{moved};
 
 use figures::MAX_TOTAL;
 
-#[derive(Clone, Copy)]
+#[derive(Clone, Copy, PartialEq, Eq, Debug)]
 pub enum Change {
     Up(u64),
     Down(u64),
@@ -15,9 +15,10 @@ impl Change {
     pub fn moved_total(self, amount: u64) -> u64
         ensures moved { result ≡ moved self amount }
     {
-        match self {
-            Change::Up(n) => amount.saturating_add(n).min(MAX_TOTAL),
-            Change::Down(n) => amount.saturating_sub(n).min(MAX_TOTAL),
-        }
+        let moved = match self {
+            Change::Up(n) => amount.saturating_add(n),
+            Change::Down(n) => amount.saturating_sub(n),
+        };
+        moved.min(MAX_TOTAL)
     }
 }

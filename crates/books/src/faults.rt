@@ -29,9 +29,8 @@ impl BookFault {
         ensures book { result ≡ book_of self.now }
     {
         match *self {
-            BookFault::Present { book } => book,
-            BookFault::Full { book } => book,
-            BookFault::Absent { book } => book,
+            BookFault::Present { book } | BookFault::Full { book } | BookFault::Absent { book } =>
+                book,
         }
     }
 }

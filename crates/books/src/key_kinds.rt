@@ -3,12 +3,12 @@ ghost use Rattle.std.specs.Prelude.{◌≡◌};
 ghost use Rattle.figures.specs.Accounts.{account_order};
 ghost use Rattle.figures.specs.declared.names.BookName.TheVariants.{Accounts, Devices};
 ghost use Rattle.books.specs.Keys.{device_order, mixed, packed, account_spread};
+ghost use Rattle.figures.proofs.Derived.{account_cmp};
 ghost use Rattle.figures.proofs.Orders.{account_order_total};
-ghost use Rattle.books.specs.Numbers.{device_order_total};
+ghost use Rattle.books.specs.Numbers.{device_cmp, device_order_total};
 
 use crate::keys::Key;
 use figures::{Account, BookName, Device};
-use std::cmp::Ordering;
 
 const GOLDEN: u64 = 11_400_714_819_323_198_485;
 
@@ -22,7 +22,7 @@ fn pack(account: Account) -> u64
     ensures packed { result ≡ packed account }
 {
     let (first, second) = account.letters();
-    (first as u64 * 256 + second as u64) * 4_294_967_296 + account.number() as u64
+    (u64::from(first) * 256 + u64::from(second)) * 4_294_967_296 + u64::from(account.number())
 }
 
 impl Key for Account {
@@ -34,7 +34,11 @@ impl Key for Account {
 
     ghost spread = { account_spread };
 
-    ghost named = { Accounts };
+    ghost BOOK = { Accounts };
+
+    const BOOK: BookName = BookName::Accounts;
+
+    ghost compares = { account_cmp };
 
     ghost total = { account_order_total };
 
@@ -42,16 +46,8 @@ impl Key for Account {
         self
     }
 
-    fn compare(one: Account, other: Account) -> Ordering {
-        one.compare(&other)
-    }
-
     fn hashed(key: Account) -> u64 {
         mix(pack(key))
-    }
-
-    fn book() -> BookName {
-        BookName::Accounts
     }
 }
 
@@ -65,7 +61,11 @@ impl Key for Device {
 
     ghost spread = { mixed };
 
-    ghost named = { Devices };
+    ghost BOOK = { Devices };
+
+    const BOOK: BookName = BookName::Devices;
+
+    ghost compares = { device_cmp };
 
     ghost total = { device_order_total };
 
@@ -73,15 +73,7 @@ impl Key for Device {
         self.digits()
     }
 
-    fn compare(one: u64, other: u64) -> Ordering {
-        one.cmp(&other)
-    }
-
     fn hashed(key: u64) -> u64 {
         mix(key)
-    }
-
-    fn book() -> BookName {
-        BookName::Devices
     }
 }

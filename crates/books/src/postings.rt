@@ -8,7 +8,7 @@ use crate::changes::Change;
 use crate::keys::Key;
 
 // What happens to both totals of one party.
-#[derive(Clone, Copy)]
+#[derive(Clone, Copy, PartialEq, Eq, Debug)]
 pub struct Posting<K> {
     pub key: K,
     pub first: Change,

@@ -4,7 +4,7 @@ ghost use Rattle.books.specs.Rows.{blank, joining, with_totals};
 
 use figures::MAX_TOTAL;
 
-#[derive(Clone, Copy)]
+#[derive(Clone, Copy, PartialEq, Eq, Debug)]
 pub struct Row<P> {
     pub key: P,
     // The member's running number. The rows lie in another order than that of joining.
@@ -18,12 +18,7 @@ impl<P: Copy> Row<P> {
     pub fn blank(key: P) -> Row<P>
         ensures blank { result ≡ blank key }
     {
-        Row {
-            key,
-            number: 0,
-            first: 0,
-            second: 0,
-        }
+        Row::joining(key, 0)
     }
 
     // The row of a member that joins.
@@ -43,10 +38,9 @@ impl<P: Copy> Row<P> {
         ensures totals { result ≡ with_totals self first second }
     {
         Row {
-            key: self.key,
-            number: self.number,
             first: first.min(MAX_TOTAL),
             second: second.min(MAX_TOTAL),
+            ..self
         }
     }
 }

@@ -8,7 +8,7 @@ const DIGIT_PAIRS: u32 = 9;
 
 const ABOVE_18_DIGITS: u64 = 1_000_000_000_000_000_000;
 
-#[derive(Clone, Copy)]
+#[derive(Clone, Copy, PartialEq, Eq, PartialOrd, Ord, Debug)]
 pub struct Device {
     digits: u64,
     ghost lawful: { gs1 digits ≡ true },
@@ -38,11 +38,12 @@ fn weighted_sum(number: u64) -> u64
 }
 
 impl Device {
-    // The device of these digits, exactly if they keep the rule.
+    // The device of these digits, exactly if they keep the rule. An `Option`, as at `Account::new`:
+    // there is one reason to refuse, so that a `TryFrom` would add an error type that tells nothing.
     pub fn new(digits: u64) -> Option<Device>
         ensures exactly_lawful { option_map (λ d. d.digits) result ≡ (if gs1 digits then Some digits else None) }
     {
-        if digits > 0 && digits < ABOVE_18_DIGITS && weighted_sum(digits) % 10 == 0 {
+        if (1..ABOVE_18_DIGITS).contains(&digits) && weighted_sum(digits) % 10 == 0 {
             Some(Device { digits })
         } else {
             None
