@@ -1,5 +1,4 @@
 // What lies in a slot of a map, and what its payload must tell.
-ghost use Rattle.std.specs.Prelude.{◌≡◌};
 ghost use Rattle.figures.specs.declared.names.Table.{Table};
 
 use figures::Table;
@@ -13,12 +12,8 @@ pub struct Entry<P> {
 }
 
 // A payload kind belongs to one table of the register, so that a refusal can name it.
-// A contract cannot cite a trait's constant: `home` is its value there, and `in_table` ties the two.
 pub trait Payload: Copy {
     const TABLE: Table;
 
-    ghost home: { Table };
-
-    fn in_table() -> Table
-        ensures { result ≡ home };
+    ghost TABLE: { Table };
 }

@@ -22,7 +22,7 @@ pub(crate) fn judge_lay<P: Payload>(
     first: u64,
     last: u64,
 ) -> Result<(), MapFault>
-    ensures { result ≡ lay_answer P.Payload.home slots first last entries.now }
+    ensures { result ≡ lay_answer P.TABLE slots first last entries.now }
 {
     if is_bad(first, last) {
         return Err(MapFault::BadRange);
@@ -31,9 +31,7 @@ pub(crate) fn judge_lay<P: Payload>(
         return Err(MapFault::Taken { first });
     }
     if entries.len() >= slots {
-        return Err(MapFault::Full {
-            table: P::in_table(),
-        });
+        return Err(MapFault::Full { table: P::TABLE });
     }
     Ok(())
 }
@@ -45,7 +43,7 @@ pub(crate) fn judge_change<P: Payload>(
     last: u64,
 ) -> Result<(), MapFault>
     requires { length entries.now ≤ slots }
-    ensures { result ≡ change_answer P.Payload.home slots first last entries.now }
+    ensures { result ≡ change_answer P.TABLE slots first last entries.now }
 {
     if is_bad(first, last) {
         return Err(MapFault::BadRange);
@@ -55,9 +53,7 @@ pub(crate) fn judge_change<P: Payload>(
     }
     // Told by what is left, since entries and cuts together might not fit a count.
     if count_cuts(entries, first, last) > slots - entries.len() {
-        return Err(MapFault::Full {
-            table: P::in_table(),
-        });
+        return Err(MapFault::Full { table: P::TABLE });
     }
     Ok(())
 }

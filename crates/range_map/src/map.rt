@@ -112,10 +112,7 @@ impl<'a, P: Payload> RangeMap<'a, P> {
         ensures as_placed { result ≡ payload_found position (in_use self.now) }
         ensures in_plain_words { Rising (in_use self.now) → result ≡ payload_at position (in_use self.now) }
     {
-        match self.find(position) {
-            Some(e) => Some(e.payload),
-            None => None,
-        }
+        self.find(position).map(|e| e.payload)
     }
 
     // The first position of a range that an entry covers.
@@ -128,8 +125,8 @@ impl<'a, P: Payload> RangeMap<'a, P> {
 
     // What `lay` would reply, with nothing changed.
     pub fn check_lay(&self, first: u64, last: u64) -> Result<(), MapFault>
-        ensures reply { result ≡ lay_answer P.Payload.home (slots_of self.now) first last (in_use self.now) }
-        ensures in_plain_words { Rising (in_use self.now) → result ≡ plain_lay P.Payload.home (slots_of self.now) first last (in_use self.now) }
+        ensures reply { result ≡ lay_answer P.TABLE (slots_of self.now) first last (in_use self.now) }
+        ensures in_plain_words { Rising (in_use self.now) → result ≡ plain_lay P.TABLE (slots_of self.now) first last (in_use self.now) }
     {
         let slots = self.capacity();
         judge_lay(self.entries(), slots, first, last)
@@ -137,8 +134,8 @@ impl<'a, P: Payload> RangeMap<'a, P> {
 
     // What `change` would reply, with nothing changed.
     pub fn check_change(&self, first: u64, last: u64) -> Result<(), MapFault>
-        ensures reply { result ≡ change_answer P.Payload.home (slots_of self.now) first last (in_use self.now) }
-        ensures in_plain_words { Rising (in_use self.now) → result ≡ plain_change P.Payload.home (slots_of self.now) first last (in_use self.now) }
+        ensures reply { result ≡ change_answer P.TABLE (slots_of self.now) first last (in_use self.now) }
+        ensures in_plain_words { Rising (in_use self.now) → result ≡ plain_change P.TABLE (slots_of self.now) first last (in_use self.now) }
         ensures cut_loses_nothing { CutLosesNothing (in_use self.now) }
         ensures uncovered_means { bad first last ≡ false → FirstOpen first last (in_use self.now) (gap first last (in_use self.now)) }
     {
@@ -148,12 +145,12 @@ impl<'a, P: Payload> RangeMap<'a, P> {
 
     // One entry more, in its place.
     pub fn lay(&mut self, first: u64, last: u64, payload: P) -> Result<(), MapFault>
-        ensures reply { result ≡ lay_answer P.Payload.home (slots_of self.old) first last (in_use self.old) }
+        ensures reply { result ≡ lay_answer P.TABLE (slots_of self.old) first last (in_use self.old) }
         ensures entries { in_use self.new ≡ (if is_ok result then laid (entry_of first last payload) (in_use self.old) else in_use self.old) }
         ensures refusal_leaves_all { is_ok result ≡ false → self.new ≡ self.old }
         ensures slots_stay { slots_of self.new ≡ slots_of self.old }
         ensures keeps_rising { Rising (in_use self.old) → Rising (in_use self.new) }
-        ensures in_plain_words { Rising (in_use self.old) → PlainLay P.Payload.home (slots_of self.old) first last payload (in_use self.old) result (in_use self.new) }
+        ensures in_plain_words { Rising (in_use self.old) → PlainLay P.TABLE (slots_of self.old) first last payload (in_use self.old) result (in_use self.new) }
     {
         self.check_lay(first, last)?;
         self.lay_checked(first, last, payload);
@@ -163,12 +160,12 @@ impl<'a, P: Payload> RangeMap<'a, P> {
     // Another payload for the positions of a range: cuts at its ends where they fall inside entries, both parts keeping the payload,
     // then the new payload for every entry within.
     pub fn change(&mut self, first: u64, last: u64, payload: P) -> Result<(), MapFault>
-        ensures reply { result ≡ change_answer P.Payload.home (slots_of self.old) first last (in_use self.old) }
+        ensures reply { result ≡ change_answer P.TABLE (slots_of self.old) first last (in_use self.old) }
         ensures entries { in_use self.new ≡ (if is_ok result then changed first last payload (in_use self.old) else in_use self.old) }
         ensures refusal_leaves_all { is_ok result ≡ false → self.new ≡ self.old }
         ensures slots_stay { slots_of self.new ≡ slots_of self.old }
         ensures keeps_rising { Rising (in_use self.old) → Rising (in_use self.new) }
-        ensures in_plain_words { Rising (in_use self.old) → PlainChange P.Payload.home (slots_of self.old) first last payload (in_use self.old) result (in_use self.new) }
+        ensures in_plain_words { Rising (in_use self.old) → PlainChange P.TABLE (slots_of self.old) first last payload (in_use self.old) result (in_use self.new) }
         ensures cut_loses_nothing { CutLosesNothing (in_use self.old) }
     {
         self.check_change(first, last)?;
@@ -193,11 +190,11 @@ impl<'a, P: Payload> RangeMap<'a, P> {
     }
 
     fn lay_checked(&mut self, first: u64, last: u64, payload: P)
-        requires { Ok tt ≡ lay_answer P.Payload.home (slots_of self.old) first last (in_use self.old) }
+        requires { Ok tt ≡ lay_answer P.TABLE (slots_of self.old) first last (in_use self.old) }
         ensures entries { in_use self.new ≡ laid (entry_of first last payload) (in_use self.old) }
         ensures slots_stay { slots_of self.new ≡ slots_of self.old }
         ensures keeps_rising { Rising (in_use self.old) → Rising (in_use self.new) }
-        ensures in_plain_words { Rising (in_use self.old) → PlainLay P.Payload.home (slots_of self.old) first last payload (in_use self.old) (Ok tt) (in_use self.new) }
+        ensures in_plain_words { Rising (in_use self.old) → PlainLay P.TABLE (slots_of self.old) first last payload (in_use self.old) (Ok tt) (in_use self.new) }
     {
         let used = self.count();
         lay_down(
@@ -213,11 +210,11 @@ impl<'a, P: Payload> RangeMap<'a, P> {
     }
 
     fn change_checked(&mut self, first: u64, last: u64, payload: P)
-        requires { Ok tt ≡ change_answer P.Payload.home (slots_of self.old) first last (in_use self.old) }
+        requires { Ok tt ≡ change_answer P.TABLE (slots_of self.old) first last (in_use self.old) }
         ensures entries { in_use self.new ≡ changed first last payload (in_use self.old) }
         ensures slots_stay { slots_of self.new ≡ slots_of self.old }
         ensures keeps_rising { Rising (in_use self.old) → Rising (in_use self.new) }
-        ensures in_plain_words { Rising (in_use self.old) → PlainChange P.Payload.home (slots_of self.old) first last payload (in_use self.old) (Ok tt) (in_use self.new) }
+        ensures in_plain_words { Rising (in_use self.old) → PlainChange P.TABLE (slots_of self.old) first last payload (in_use self.old) (Ok tt) (in_use self.new) }
     {
         let used = self.count();
         self.used = rewrite(self.slots, used, first, last, payload);

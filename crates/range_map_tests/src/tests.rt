@@ -10,11 +10,7 @@ struct Mark(u8);
 impl Payload for Mark {
     const TABLE: Table = Table::Standings;
 
-    ghost home = { Standings };
-
-    fn in_table() -> Table {
-        Self::TABLE
-    }
+    ghost TABLE = { Standings };
 }
 
 const LAST: u64 = (1 << 62) - 1;

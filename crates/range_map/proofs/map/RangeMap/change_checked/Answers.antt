@@ -5,7 +5,7 @@ use Rattle.range_map.proofs.map.RangeMap.change_checked.Goals as goal
 pub rewrite-self-requires : goal.rewrite-self-requires
 rewrite-self-requires g c =
     let s = c.args.self.now in
-    let room = change_room s.used s.slots.now c.count-used.result c.count-used.ensures.in_use g.P.Payload.home c.args.first c.args.last _ c.requires in
+    let room = change_room s.used s.slots.now c.count-used.result c.count-used.ensures.in_use g.P.Payload.TABLE c.args.first c.args.last _ c.requires in
     record { fits = used_fits s.used s.slots.now c.count-used.result c.count-used.ensures.in_use; bound = room.0; room = room.1 }
 
 pub returns : goal.returns
@@ -13,7 +13,7 @@ returns g c =
     let f = c.args.first in
     let l = c.args.last in
     let p = c.args.payload in
-    let t = g.P.Payload.home in
+    let t = g.P.Payload.TABLE in
     let s = c.args.self.now in
     let reply = c.requires in
     let entries = changed_there s.used s.slots.now c.count-used.result c.count-used.ensures.in_use f l p _ c.rewrite-self.ensures.after in

@@ -13,7 +13,7 @@ pub returns : goal.returns
 returns g c =
     let f = c.args.first in
     let l = c.args.last in
-    let t = g.P.Payload.home in
+    let t = g.P.Payload.TABLE in
     let slots = c.capacity-slots.ensures.all_slots in
     let entries = c.entries.ensures.as_they_lie in
     let is = c.judge_change.ensures ∙ (λ j. change_answer t (slots j) f l (entries j)) in
