@@ -29,7 +29,7 @@ module _ {X : Type 0} (checks : State → List (Option Fault)) (value : State �
 abbrev pub answered : State → Ledger Account → MapOf Standing → List Offer → State
 answered s accounts standings offers = record { opened = s.opened; date = s.date; last = s.last; offered = s.offered; cancelled = s.cancelled; accounts = accounts; devices = s.devices; periods = s.periods; origins = s.origins; standings = standings; offers = offers; cancellations = s.cancellations }
 
-module _ (call : OfferCall) (k : ℕ) (f : Offer) (day : DayFigures) (accounts accounts' posted : Ledger Account) (devices : Ledger ℕ) (tables tables' : Tables) (standings : MapOf Standing) where
+module _ (call : OfferCall) (k : ℕ) (f : Offer) (day : DayFigures) (accounts accounts' posted : Ledger Account) (devices devices' : Ledger ℕ) (tables tables' : Tables) (standings : MapOf Standing) where
   abbrev rows : List Offer
   rows = tables.offers.now
 
@@ -39,6 +39,7 @@ module _ (call : OfferCall) (k : ℕ) (f : Offer) (day : DayFigures) (accounts a
       (totals : accounts' ≡ posted)
       (stands : map_of tables'.standings ≡ standings)
       (row : (o : Offer) → nth (k - 1) rows ≡ Some o → tables'.offers.now ≡ set rows (k - 1) (answered_by call o))
+      (same_devices : devices' ≡ devices)
       (same_periods : tables'.periods ≡ tables.periods)
       (same_origins : tables'.origins ≡ tables.origins)
       (same_cancellations : tables'.cancellations ≡ tables.cancellations)
@@ -49,8 +50,8 @@ module _ (call : OfferCall) (k : ℕ) (f : Offer) (day : DayFigures) (accounts a
           ∙ ap (λ state. set rows (k - 1) (in_state (state_after state call) f)) unanswered
 
       -- what is booked of the offer that there is
-      pub answer_booked : (book : Offer → State → State) → book f (state_of true day accounts devices tables) ≡ answered (state_of true day accounts devices tables) posted standings (set rows (k - 1) (in_state (state_after Open call) f)) → state_of true day accounts' devices tables' ≡ of_offer book (offer_at k day.offers rows) (state_of true day accounts devices tables)
+      pub answer_booked : (book : Offer → State → State) → book f (state_of true day accounts devices tables) ≡ answered (state_of true day accounts devices tables) posted standings (set rows (k - 1) (in_state (state_after Open call) f)) → state_of true day accounts' devices' tables' ≡ of_offer book (offer_at k day.offers rows) (state_of true day accounts devices tables)
       answer_booked book booked =
-          (λ i. record { opened = true; date = day.date; last = day.last_number.0; offered = day.offers; cancelled = day.cancellations; accounts = totals i; devices = devices; periods = map_of (same_periods i); origins = map_of (same_origins i); standings = stands i; offers = offers_after i; cancellations = (same_cancellations i).now })
+          (λ i. record { opened = true; date = day.date; last = day.last_number.0; offered = day.offers; cancelled = day.cancellations; accounts = totals i; devices = same_devices i; periods = map_of (same_periods i); origins = map_of (same_origins i); standings = stands i; offers = offers_after i; cancellations = (same_cancellations i).now })
           ∙ sym booked
           ∙ ap (λ o. of_offer book o (state_of true day accounts devices tables)) (sym found)

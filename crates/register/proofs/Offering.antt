@@ -15,14 +15,14 @@ use Rattle.range_map.specs.Replies.{change_reply}
 use Rattle.range_map.specs.declared.entry.Entry.{Entry}
 use Rattle.range_map.specs.declared.fault.MapFault.{MapFault}
 use Rattle.range_map.specs.declared.fault.MapFault.TheVariants as range
-use Rattle.register.specs.Checks.{bad_at, account_known, holds, has_row, cuts_fit, not_held_at, offer_checks}
+use Rattle.register.specs.Checks.{bad_at, account_known, holds, has_row, cuts_fit, not_held_at, offer_checks, to_itself}
 use Rattle.register.specs.Faults.{unless}
 use Rattle.register.specs.Holdings.{held_by, gap_by, unheld}
-use Rattle.register.specs.State.{State, is_account}
+use Rattle.register.specs.State.{State}
 use Rattle.register.specs.declared.faults.Fault.{Fault}
-use Rattle.register.specs.declared.faults.Fault.TheVariants.{Map, OfferedToItself}
+use Rattle.register.specs.declared.faults.Fault.TheVariants.{Map}
 use Rattle.register.specs.declared.rows.Standing.{Standing}
-use Rattle.register.proofs.Verdicts.{Reaches, pass, holds_test}
+use Rattle.register.proofs.Verdicts.{Reaches, pass}
 
 -- a walk that meets no gap in what passes meets none in what is covered
 gap_weaker : {P : Type 0} (t : P → Bool) (f l : ℕ) (m : List (Entry P)) → gap_by t f l m ≡ None → gap f l m ≡ None
@@ -92,7 +92,13 @@ module _ (slots f l : ℕ) (m : List (Entry Standing)) (r : Result (Unit {0}) Ma
 
 -- the checks up to the parties, passed
 module _ (o : MakeOffer) (t : OfferTerms) (s : State) (checked : plain_offer t ≡ o) where
-  pub to_numbers : {v : Option Fault} → None ≡ bad_at (bad_offer o) → is_account t.from t.to ≡ false → None ≡ account_known t.from s → None ≡ account_known t.to s → Reaches v (holds t.from t.numbers.first.0 t.numbers.last.0 s ∷ has_row Offers s.offered s.offers ∷ cuts_fit t.numbers.first.0 t.numbers.last.0 s ∷ []) → Reaches v (offer_checks o s)
-  to_numbers {v} operands differ from to rest =
+  abbrev numbers : List (Option Fault)
+  numbers = holds t.from t.numbers.first.0 t.numbers.last.0 s ∷ has_row Offers s.offered s.offers ∷ cuts_fit t.numbers.first.0 t.numbers.last.0 s ∷ []
+
+  pub to_receiver : {v : Option Fault} → None ≡ bad_at (bad_offer o) → None ≡ to_itself t.from t.to → None ≡ account_known t.from s → Reaches v (account_known t.to s ∷ numbers) → Reaches v (offer_checks o s)
+  to_receiver {v} operands differ from rest =
       subst (λ x. None ≡ bad_at (bad_offer x) → Reaches v (offer_checks x s)) checked
-      (λ lawful. pass lawful (pass (holds_test (not (is_account t.from t.to)) (OfferedToItself t.from) (ap not differ)) (pass from (pass to rest)))) operands
+      (λ lawful. pass lawful (pass differ (pass from rest))) operands
+
+  pub to_numbers : {v : Option Fault} → None ≡ bad_at (bad_offer o) → None ≡ to_itself t.from t.to → None ≡ account_known t.from s → None ≡ account_known t.to s → Reaches v numbers → Reaches v (offer_checks o s)
+  to_numbers operands differ from to rest = to_receiver operands differ from (pass to rest)

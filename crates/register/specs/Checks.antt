@@ -136,10 +136,14 @@ slots_for f l slots m = unless (nat_le (length m + cuts_in f l m) slots) (Map (r
 abbrev pub cuts_fit : ℕ → ℕ → State → Option Fault
 cuts_fit f l s = slots_for f l s.standings.slots s.standings.entries
 
+-- nobody offers to itself
+abbrev pub to_itself : Account → Account → Option Fault
+to_itself a b = unless (not (is_account a b)) (OfferedToItself a)
+
 abbrev pub offer_checks : MakeOffer → State → List (Option Fault)
 offer_checks o s =
     bad_at (bad_offer o)
-    ∷ unless (not (is_account (account_from o.from) (account_from o.to))) (OfferedToItself (account_from o.from))
+    ∷ to_itself (account_from o.from) (account_from o.to)
     ∷ account_known (account_from o.from) s
     ∷ account_known (account_from o.to) s
     ∷ holds (account_from o.from) o.first o.last s

@@ -6,7 +6,7 @@ ghost use Rattle.register.specs.Settled.{Settles, state_of, next_account, next_d
 
 use crate::day::OpenDay;
 use crate::faults::Fault;
-use crate::tables::Tables;
+use crate::registers::Register;
 use books::Book;
 use figures::{Account, Device};
 use order_file::{OpenAccount, RegisterDevice};
@@ -15,38 +15,34 @@ impl OpenDay {
     // The account joins its book last; its running number is answered.
     pub(crate) fn open_account<AccountBook: Book<Account>, DeviceBook: Book<Device>>(
         &mut self,
-        accounts: &mut AccountBook,
-        devices: &mut DeviceBook,
-        tables: &mut Tables<'_>,
+        register: &mut Register<'_, AccountBook, DeviceBook>,
         order: OpenAccount,
     ) -> Result<u64, Fault>
-        ensures settles { Settles (opening_checks order) next_account (opening order) (state_of true self.old.figures (AccountBook.Book.meaning accounts.old) (DeviceBook.Book.meaning devices.old) tables.old) result (state_of true self.new.figures (AccountBook.Book.meaning accounts.new) (DeviceBook.Book.meaning devices.new) tables.new) }
+        ensures settles { Settles (opening_checks order) next_account (opening order) (state_of true self.old.figures (AccountBook.Book.meaning register.old.accounts) (DeviceBook.Book.meaning register.old.devices) register.old.tables) result (state_of true self.new.figures (AccountBook.Book.meaning register.new.accounts) (DeviceBook.Book.meaning register.new.devices) register.new.tables) }
         ensures leaves_day { self.new ≡ self.old }
-        ensures refusal_leaves_accounts { is_ok result ≡ false → accounts.new ≡ accounts.old }
-        ensures leaves_devices { devices.new ≡ devices.old }
-        ensures leaves_tables { tables.new ≡ tables.old }
+        ensures refusal_leaves_accounts { is_ok result ≡ false → register.new.accounts ≡ register.old.accounts }
+        ensures leaves_devices { register.new.devices ≡ register.old.devices }
+        ensures leaves_tables { register.new.tables ≡ register.old.tables }
     {
         let account = order.check()?;
-        let number = accounts.add(account)?;
+        let number = register.accounts.add(account)?;
         Ok(number)
     }
 
     // The device joins its book last; its running number is answered.
     pub(crate) fn register_device<AccountBook: Book<Account>, DeviceBook: Book<Device>>(
         &mut self,
-        accounts: &mut AccountBook,
-        devices: &mut DeviceBook,
-        tables: &mut Tables<'_>,
+        register: &mut Register<'_, AccountBook, DeviceBook>,
         order: RegisterDevice,
     ) -> Result<u64, Fault>
-        ensures settles { Settles (registration_checks order) next_device (registration order) (state_of true self.old.figures (AccountBook.Book.meaning accounts.old) (DeviceBook.Book.meaning devices.old) tables.old) result (state_of true self.new.figures (AccountBook.Book.meaning accounts.new) (DeviceBook.Book.meaning devices.new) tables.new) }
+        ensures settles { Settles (registration_checks order) next_device (registration order) (state_of true self.old.figures (AccountBook.Book.meaning register.old.accounts) (DeviceBook.Book.meaning register.old.devices) register.old.tables) result (state_of true self.new.figures (AccountBook.Book.meaning register.new.accounts) (DeviceBook.Book.meaning register.new.devices) register.new.tables) }
         ensures leaves_day { self.new ≡ self.old }
-        ensures leaves_accounts { accounts.new ≡ accounts.old }
-        ensures refusal_leaves_devices { is_ok result ≡ false → devices.new ≡ devices.old }
-        ensures leaves_tables { tables.new ≡ tables.old }
+        ensures leaves_accounts { register.new.accounts ≡ register.old.accounts }
+        ensures refusal_leaves_devices { is_ok result ≡ false → register.new.devices ≡ register.old.devices }
+        ensures leaves_tables { register.new.tables ≡ register.old.tables }
     {
         let device = order.check()?;
-        let number = devices.add(device)?;
+        let number = register.devices.add(device)?;
         Ok(number)
     }
 }

@@ -1,7 +1,7 @@
 // The answers to an offer: its receiver accepts it, or its sender recalls it.
 ghost use Rattle.std.specs.Prelude.{◌≡◌, ℕ, ◌-◌, ◌<◌, ◌≤◌, true, false, length, is_ok, IfOk, Some, OnOk, slice_set};
 ghost use Rattle.books.specs.Changes.{posted};
-ghost use Rattle.books.specs.Ledger.{Ledger, present};
+ghost use Rattle.books.specs.Ledger.{present};
 ghost use Rattle.books.specs.declared.changes.Change.TheVariants.{Up, Down};
 ghost use Rattle.range_map.specs.Map.{in_use, nth};
 ghost use Rattle.register.specs.Answers.{answer_checks, answered_by, offer_at, overdue_under, party_of, past_term};
@@ -20,10 +20,9 @@ use crate::checks::check_member;
 use crate::counts::{count_picked, is_given_back};
 use crate::day::{DayFigures, OpenDay};
 use crate::faults::Fault;
-use crate::holdings::is_account;
+use crate::registers::Register;
 use crate::remakes::{accepted, recalled, remake_all};
 use crate::rows::{Offer, OfferState, Standing};
-use crate::tables::Tables;
 use crate::terms::Today;
 use books::{Book, Change, Posting, post, post_both};
 use figures::{Account, Device, MAX_MEMBERS};
@@ -66,7 +65,7 @@ fn check_party(offer: Offer, call: OfferCall, account: Account) -> Result<(), Fa
         OfferCall::Accept => offer.to,
         OfferCall::Recall => offer.from,
     };
-    if !is_account(account, party) {
+    if account != party {
         return Err(Fault::WrongParty { account });
     }
     Ok(())
@@ -139,26 +138,27 @@ fn judge_answer<AccountBook: Book<Account>>(
 }
 
 // All that an acceptance books. The count is of the standings as they were.
-fn book_acceptance<AccountBook: Book<Account>>(
-    accounts: &mut AccountBook,
-    tables: &mut Tables<'_>,
+fn book_acceptance<AccountBook: Book<Account>, DeviceBook>(
+    register: &mut Register<'_, AccountBook, DeviceBook>,
     number: u32,
     offer: Offer,
 )
     requires numbered { 1 ≤ number }
-    requires within { number - 1 < length tables.old.offers.now }
-    ensures totals { AccountBook.Book.meaning accounts.new ≡ posted (is_account offer.to) (Up (counted (under_offer number) (in_use tables.old.standings))) (Up 0) (posted (is_account offer.from) (Up 0) (Down (counted (under_offer number) (in_use tables.old.standings))) (AccountBook.Book.meaning accounts.old)) }
-    ensures standings { map_of tables.new.standings ≡ remake_in (accepted number offer.to) (map_of tables.old.standings) }
-    ensures answered { (f : OfferRow) → nth (number - 1) tables.old.offers.now ≡ Some f → tables.new.offers.now ≡ slice_set tables.old.offers.now (number - 1) (answered_by offerCall.Accept f) }
-    ensures periods_stay { tables.new.periods ≡ tables.old.periods }
-    ensures origins_stay { tables.new.origins ≡ tables.old.origins }
-    ensures cancellations_stay { tables.new.cancellations ≡ tables.old.cancellations }
+    requires within { number - 1 < length register.old.tables.offers.now }
+    ensures totals { AccountBook.Book.meaning register.new.accounts ≡ posted (is_account offer.to) (Up (counted (under_offer number) (in_use register.old.tables.standings))) (Up 0) (posted (is_account offer.from) (Up 0) (Down (counted (under_offer number) (in_use register.old.tables.standings))) (AccountBook.Book.meaning register.old.accounts)) }
+    ensures standings { map_of register.new.tables.standings ≡ remake_in (accepted number offer.to) (map_of register.old.tables.standings) }
+    ensures answered { (f : OfferRow) → nth (number - 1) register.old.tables.offers.now ≡ Some f → register.new.tables.offers.now ≡ slice_set register.old.tables.offers.now (number - 1) (answered_by offerCall.Accept f) }
+    ensures devices_stay { register.new.devices ≡ register.old.devices }
+    ensures periods_stay { register.new.tables.periods ≡ register.old.tables.periods }
+    ensures origins_stay { register.new.tables.origins ≡ register.old.tables.origins }
+    ensures cancellations_stay { register.new.tables.cancellations ≡ register.old.tables.cancellations }
 {
+    let tables = &mut register.tables;
     let count = count_picked(tables.standings.entries(), |entry| {
         entry.payload.is_offered_under(number)
     });
     post_both(
-        accounts,
+        &mut register.accounts,
         Posting {
             key: offer.from,
             first: Change::Up(0),
@@ -177,22 +177,23 @@ fn book_acceptance<AccountBook: Book<Account>>(
 }
 
 // All that a recall books. The counts are of the standings as they were.
-fn book_recall<AccountBook: Book<Account>>(
-    accounts: &mut AccountBook,
-    tables: &mut Tables<'_>,
+fn book_recall<AccountBook: Book<Account>, DeviceBook>(
+    register: &mut Register<'_, AccountBook, DeviceBook>,
     date: u32,
     number: u32,
     offer: Offer,
 )
     requires numbered { 1 ≤ number }
-    requires within { number - 1 < length tables.old.offers.now }
-    ensures totals { AccountBook.Book.meaning accounts.new ≡ posted (is_account offer.from) (Up (counted (given_back number date (in_use tables.old.origins)) (in_use tables.old.standings))) (Down (counted (under_offer number) (in_use tables.old.standings))) (AccountBook.Book.meaning accounts.old) }
-    ensures standings { map_of tables.new.standings ≡ remake_in (recalled number offer.from date (in_use tables.old.origins)) (map_of tables.old.standings) }
-    ensures answered { (f : OfferRow) → nth (number - 1) tables.old.offers.now ≡ Some f → tables.new.offers.now ≡ slice_set tables.old.offers.now (number - 1) (answered_by offerCall.Recall f) }
-    ensures periods_stay { tables.new.periods ≡ tables.old.periods }
-    ensures origins_stay { tables.new.origins ≡ tables.old.origins }
-    ensures cancellations_stay { tables.new.cancellations ≡ tables.old.cancellations }
+    requires within { number - 1 < length register.old.tables.offers.now }
+    ensures totals { AccountBook.Book.meaning register.new.accounts ≡ posted (is_account offer.from) (Up (counted (given_back number date (in_use register.old.tables.origins)) (in_use register.old.tables.standings))) (Down (counted (under_offer number) (in_use register.old.tables.standings))) (AccountBook.Book.meaning register.old.accounts) }
+    ensures standings { map_of register.new.tables.standings ≡ remake_in (recalled number offer.from date (in_use register.old.tables.origins)) (map_of register.old.tables.standings) }
+    ensures answered { (f : OfferRow) → nth (number - 1) register.old.tables.offers.now ≡ Some f → register.new.tables.offers.now ≡ slice_set register.old.tables.offers.now (number - 1) (answered_by offerCall.Recall f) }
+    ensures devices_stay { register.new.devices ≡ register.old.devices }
+    ensures periods_stay { register.new.tables.periods ≡ register.old.tables.periods }
+    ensures origins_stay { register.new.tables.origins ≡ register.old.tables.origins }
+    ensures cancellations_stay { register.new.tables.cancellations ≡ register.old.tables.cancellations }
 {
+    let tables = &mut register.tables;
     let today = Today {
         date,
         origins: &tables.origins,
@@ -204,7 +205,7 @@ fn book_recall<AccountBook: Book<Account>>(
         entry.payload.is_offered_under(number)
     });
     post(
-        accounts,
+        &mut register.accounts,
         Posting {
             key: offer.from,
             first: Change::Up(back),
@@ -218,47 +219,45 @@ fn book_recall<AccountBook: Book<Account>>(
 }
 
 // An acceptance also wants every entry under the offer in term.
-fn judge_acceptance<AccountBook: Book<Account>>(
+fn judge_acceptance<AccountBook: Book<Account>, DeviceBook: Book<Device>>(
     day: DayFigures,
-    accounts: &AccountBook,
-    tables: &Tables<'_>,
+    register: &Register<'_, AccountBook, DeviceBook>,
     order: AcceptOffer,
 ) -> Result<Offer, Fault>
-    ensures verdict { (devices : Ledger ℕ) → fault_in result ≡ first_fault (acceptance_checks order (state_of true day (AccountBook.Book.meaning accounts.now) devices tables.now)) }
-    ensures on_record { IfOk result (λ f. offer_at order.offer day.offers tables.now.offers.now ≡ Some f) }
+    ensures verdict { fault_in result ≡ first_fault (acceptance_checks order (state_of true day (AccountBook.Book.meaning register.now.accounts) (DeviceBook.Book.meaning register.now.devices) register.now.tables)) }
+    ensures on_record { IfOk result (λ f. offer_at order.offer day.offers register.now.tables.offers.now ≡ Some f) }
     ensures open { IfOk result (λ f. f.state ≡ inThe.Open) }
 {
     let answer = order.check()?;
     let offer = judge_answer(
-        accounts,
-        tables.offers,
+        &register.accounts,
+        register.tables.offers,
         day.offers,
         answer,
         OfferCall::Accept,
     )?;
     let today = Today {
         date: day.date,
-        origins: &tables.origins,
+        origins: &register.tables.origins,
     };
-    check_in_term(today, answer.offer, tables.standings.entries())?;
+    check_in_term(today, answer.offer, register.tables.standings.entries())?;
     Ok(offer)
 }
 
 // A recall is booked in term and past it.
-fn judge_recall<AccountBook: Book<Account>>(
+fn judge_recall<AccountBook: Book<Account>, DeviceBook: Book<Device>>(
     day: DayFigures,
-    accounts: &AccountBook,
-    tables: &Tables<'_>,
+    register: &Register<'_, AccountBook, DeviceBook>,
     order: RecallOffer,
 ) -> Result<Offer, Fault>
-    ensures verdict { (devices : Ledger ℕ) → fault_in result ≡ first_fault (recall_checks order (state_of true day (AccountBook.Book.meaning accounts.now) devices tables.now)) }
-    ensures on_record { IfOk result (λ f. offer_at order.offer day.offers tables.now.offers.now ≡ Some f) }
+    ensures verdict { fault_in result ≡ first_fault (recall_checks order (state_of true day (AccountBook.Book.meaning register.now.accounts) (DeviceBook.Book.meaning register.now.devices) register.now.tables)) }
+    ensures on_record { IfOk result (λ f. offer_at order.offer day.offers register.now.tables.offers.now ≡ Some f) }
     ensures open { IfOk result (λ f. f.state ≡ inThe.Open) }
 {
     let answer = order.check()?;
     judge_answer(
-        accounts,
-        tables.offers,
+        &register.accounts,
+        register.tables.offers,
         day.offers,
         answer,
         OfferCall::Recall,
@@ -269,40 +268,36 @@ impl OpenDay {
     // The receiver accepts: every entry under the offer is held by the receiver.
     pub(crate) fn accept<AccountBook: Book<Account>, DeviceBook: Book<Device>>(
         &mut self,
-        accounts: &mut AccountBook,
-        devices: &mut DeviceBook,
-        tables: &mut Tables<'_>,
+        register: &mut Register<'_, AccountBook, DeviceBook>,
         order: AcceptOffer,
     ) -> Result<(), Fault>
-        ensures settles { Settles (acceptance_checks order) (λ _. tt) (acceptance order) (state_of true self.old.figures (AccountBook.Book.meaning accounts.old) (DeviceBook.Book.meaning devices.old) tables.old) result (state_of true self.new.figures (AccountBook.Book.meaning accounts.new) (DeviceBook.Book.meaning devices.new) tables.new) }
+        ensures settles { Settles (acceptance_checks order) (λ _. tt) (acceptance order) (state_of true self.old.figures (AccountBook.Book.meaning register.old.accounts) (DeviceBook.Book.meaning register.old.devices) register.old.tables) result (state_of true self.new.figures (AccountBook.Book.meaning register.new.accounts) (DeviceBook.Book.meaning register.new.devices) register.new.tables) }
         ensures leaves_day { self.new ≡ self.old }
-        ensures refusal_leaves_accounts { is_ok result ≡ false → accounts.new ≡ accounts.old }
-        ensures leaves_devices { devices.new ≡ devices.old }
-        ensures refusal_leaves_tables { is_ok result ≡ false → tables.new ≡ tables.old }
+        ensures refusal_leaves_accounts { is_ok result ≡ false → register.new.accounts ≡ register.old.accounts }
+        ensures leaves_devices { register.new.devices ≡ register.old.devices }
+        ensures refusal_leaves_tables { is_ok result ≡ false → register.new.tables ≡ register.old.tables }
     {
         let day = self.figures;
-        let offer = judge_acceptance(day, accounts, tables, order)?;
-        book_acceptance(accounts, tables, order.offer, offer);
+        let offer = judge_acceptance(day, register, order)?;
+        book_acceptance(register, order.offer, offer);
         Ok(())
     }
 
     // The sender recalls: every entry under the offer goes back to the sender, or expires.
     pub(crate) fn recall<AccountBook: Book<Account>, DeviceBook: Book<Device>>(
         &mut self,
-        accounts: &mut AccountBook,
-        devices: &mut DeviceBook,
-        tables: &mut Tables<'_>,
+        register: &mut Register<'_, AccountBook, DeviceBook>,
         order: RecallOffer,
     ) -> Result<(), Fault>
-        ensures settles { Settles (recall_checks order) (λ _. tt) (recall order) (state_of true self.old.figures (AccountBook.Book.meaning accounts.old) (DeviceBook.Book.meaning devices.old) tables.old) result (state_of true self.new.figures (AccountBook.Book.meaning accounts.new) (DeviceBook.Book.meaning devices.new) tables.new) }
+        ensures settles { Settles (recall_checks order) (λ _. tt) (recall order) (state_of true self.old.figures (AccountBook.Book.meaning register.old.accounts) (DeviceBook.Book.meaning register.old.devices) register.old.tables) result (state_of true self.new.figures (AccountBook.Book.meaning register.new.accounts) (DeviceBook.Book.meaning register.new.devices) register.new.tables) }
         ensures leaves_day { self.new ≡ self.old }
-        ensures refusal_leaves_accounts { is_ok result ≡ false → accounts.new ≡ accounts.old }
-        ensures leaves_devices { devices.new ≡ devices.old }
-        ensures refusal_leaves_tables { is_ok result ≡ false → tables.new ≡ tables.old }
+        ensures refusal_leaves_accounts { is_ok result ≡ false → register.new.accounts ≡ register.old.accounts }
+        ensures leaves_devices { register.new.devices ≡ register.old.devices }
+        ensures refusal_leaves_tables { is_ok result ≡ false → register.new.tables ≡ register.old.tables }
     {
         let day = self.figures;
-        let offer = judge_recall(day, accounts, tables, order)?;
-        book_recall(accounts, tables, day.date, order.offer, offer);
+        let offer = judge_recall(day, register, order)?;
+        book_recall(register, day.date, order.offer, offer);
         Ok(())
     }
 }

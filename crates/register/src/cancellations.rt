@@ -3,13 +3,14 @@ ghost use Rattle.std.specs.Prelude.{◌≡◌, true, false, length, is_ok, slice
 ghost use Rattle.order_file.specs.Checked.{plain_cancellation};
 ghost use Rattle.register.specs.Bookings.{change_in, cancellation_of, cancellation};
 ghost use Rattle.register.specs.Checks.{cancellation_checks};
-ghost use Rattle.register.specs.Settled.{map_of, state_of, ledger_without_devices, Judged, Fits, Settles, next_serial};
+ghost use Rattle.register.specs.Settled.{map_of, state_of, Judged, Fits, Settles, next_serial};
 ghost use Rattle.register.specs.declared.rows.Standing.TheVariants.{Cancelled};
 
 use crate::checks::check_member;
 use crate::day::{DayFigures, OpenDay};
 use crate::faults::Fault;
 use crate::numbers::check_numbers;
+use crate::registers::Register;
 use crate::rows::{Cancellation, Standing};
 use crate::tables::Tables;
 use books::{Book, Change, Posting, post};
@@ -18,23 +19,22 @@ use order_file::{Cancel, CancellationTerms};
 
 impl OpenDay {
     // The checks of a cancellation, in their order, before anything changes.
-    fn judge_cancellation<AccountBook: Book<Account>>(
+    fn judge_cancellation<AccountBook: Book<Account>, DeviceBook: Book<Device>>(
         &self,
-        accounts: &AccountBook,
-        tables: &Tables<'_>,
+        register: &Register<'_, AccountBook, DeviceBook>,
         order: Cancel,
     ) -> Result<CancellationTerms, Fault>
-        ensures judged { Judged (cancellation_checks order (state_of true self.now.figures (AccountBook.Book.meaning accounts.now) ledger_without_devices tables.now)) (λ t. (plain_cancellation t ≡ order) × Fits self.now.figures.cancellations (length tables.now.cancellations.now) t.numbers.first.0 t.numbers.last.0 tables.now.standings) result }
+        ensures judged { Judged (cancellation_checks order (state_of true self.now.figures (AccountBook.Book.meaning register.now.accounts) (DeviceBook.Book.meaning register.now.devices) register.now.tables)) (λ t. (plain_cancellation t ≡ order) × Fits self.now.figures.cancellations (length register.now.tables.cancellations.now) t.numbers.first.0 t.numbers.last.0 register.now.tables.standings) result }
     {
         let terms = order.check()?;
-        check_member(accounts, terms.account)?;
+        check_member(&register.accounts, terms.account)?;
         check_numbers(
-            &tables.standings,
+            &register.tables.standings,
             terms.account,
             terms.numbers,
             Table::Cancellations,
             self.figures.cancellations,
-            tables.cancellations.len(),
+            register.tables.cancellations.len(),
         )?;
         Ok(terms)
     }
@@ -42,23 +42,21 @@ impl OpenDay {
     // The numbers are cancelled under the next serial, which is answered; the holder's total falls.
     pub(crate) fn cancel<AccountBook: Book<Account>, DeviceBook: Book<Device>>(
         &mut self,
-        accounts: &mut AccountBook,
-        devices: &mut DeviceBook,
-        tables: &mut Tables<'_>,
+        register: &mut Register<'_, AccountBook, DeviceBook>,
         order: Cancel,
     ) -> Result<u32, Fault>
-        ensures settles { Settles (cancellation_checks order) next_serial (cancellation order) (state_of true self.old.figures (AccountBook.Book.meaning accounts.old) (DeviceBook.Book.meaning devices.old) tables.old) result (state_of true self.new.figures (AccountBook.Book.meaning accounts.new) (DeviceBook.Book.meaning devices.new) tables.new) }
+        ensures settles { Settles (cancellation_checks order) next_serial (cancellation order) (state_of true self.old.figures (AccountBook.Book.meaning register.old.accounts) (DeviceBook.Book.meaning register.old.devices) register.old.tables) result (state_of true self.new.figures (AccountBook.Book.meaning register.new.accounts) (DeviceBook.Book.meaning register.new.devices) register.new.tables) }
         ensures refusal_leaves_day { is_ok result ≡ false → self.new ≡ self.old }
-        ensures refusal_leaves_accounts { is_ok result ≡ false → accounts.new ≡ accounts.old }
-        ensures leaves_devices { devices.new ≡ devices.old }
-        ensures refusal_leaves_tables { is_ok result ≡ false → tables.new ≡ tables.old }
+        ensures refusal_leaves_accounts { is_ok result ≡ false → register.new.accounts ≡ register.old.accounts }
+        ensures leaves_devices { register.new.devices ≡ register.old.devices }
+        ensures refusal_leaves_tables { is_ok result ≡ false → register.new.tables ≡ register.old.tables }
     {
-        let terms = self.judge_cancellation(accounts, tables, order)?;
+        let terms = self.judge_cancellation(register, order)?;
         let serial = self.figures.cancellations + 1;
-        use_up(tables, self.figures, serial, terms);
+        use_up(&mut register.tables, self.figures, serial, terms);
         let count = terms.numbers.last.0 - terms.numbers.first.0 + 1;
         post(
-            accounts,
+            &mut register.accounts,
             Posting {
                 key: terms.account,
                 first: Change::Down(count),

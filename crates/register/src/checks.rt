@@ -10,10 +10,10 @@ use figures::{MAX_MEMBERS, Table};
 
 // The key is a member of its book.
 pub(crate) fn check_member<K: Key, B: Book<K>>(book: &B, key: K) -> Result<(), Fault>
-    ensures verdict { fault_in result ≡ in_book K.Key.named (present (matches K.Key.order (K.Key.plain key)) (B.Book.meaning book.now).members) }
+    ensures verdict { fault_in result ≡ in_book K.Key.BOOK (present (matches K.Key.order (K.Key.plain key)) (B.Book.meaning book.now).members) }
 {
     if book.running_number(key).is_none() {
-        return Err(Fault::from(BookFault::Absent { book: K::book() }));
+        return Err(Fault::from(BookFault::Absent { book: K::BOOK }));
     }
     Ok(())
 }

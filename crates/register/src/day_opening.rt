@@ -12,9 +12,9 @@ ghost use Rattle.register.specs.declared.faults.Fault.TheVariants as fault;
 use crate::counts::size_of;
 use crate::day::{ClosedDay, DayFigures, OpenDay};
 use crate::faults::Fault;
+use crate::registers::Register;
 use crate::remakes::{expired, remake_all};
 use crate::rows::Standing;
-use crate::tables::Tables;
 use crate::terms::Today;
 use books::{Book, Change, Posting, post};
 use figures::{Account, Device, LAST_DAY};
@@ -77,23 +77,24 @@ fn lower_all<AccountBook: Book<Account>>(
 }
 
 // Totals fall by the standings as they were; then the standings change.
-fn expire<AccountBook: Book<Account>>(
-    accounts: &mut AccountBook,
-    tables: &mut Tables<'_>,
+fn expire<AccountBook: Book<Account>, DeviceBook>(
+    register: &mut Register<'_, AccountBook, DeviceBook>,
     date: u32,
 )
-    ensures lowered { AccountBook.Book.meaning accounts.new ≡ lowered_all date (in_use tables.old.origins) (in_use tables.old.standings) (AccountBook.Book.meaning accounts.old) }
-    ensures expired { map_of tables.new.standings ≡ remake_in (expired_by date (in_use tables.old.origins)) (map_of tables.old.standings) }
-    ensures periods_stay { tables.new.periods ≡ tables.old.periods }
-    ensures origins_stay { tables.new.origins ≡ tables.old.origins }
-    ensures offers_stay { tables.new.offers ≡ tables.old.offers }
-    ensures cancellations_stay { tables.new.cancellations ≡ tables.old.cancellations }
+    ensures lowered { AccountBook.Book.meaning register.new.accounts ≡ lowered_all date (in_use register.old.tables.origins) (in_use register.old.tables.standings) (AccountBook.Book.meaning register.old.accounts) }
+    ensures expired { map_of register.new.tables.standings ≡ remake_in (expired_by date (in_use register.old.tables.origins)) (map_of register.old.tables.standings) }
+    ensures devices_stay { register.new.devices ≡ register.old.devices }
+    ensures periods_stay { register.new.tables.periods ≡ register.old.tables.periods }
+    ensures origins_stay { register.new.tables.origins ≡ register.old.tables.origins }
+    ensures offers_stay { register.new.tables.offers ≡ register.old.tables.offers }
+    ensures cancellations_stay { register.new.tables.cancellations ≡ register.old.tables.cancellations }
 {
+    let tables = &mut register.tables;
     let today = Today {
         date,
         origins: &tables.origins,
     };
-    lower_all(accounts, today, tables.standings.entries());
+    lower_all(&mut register.accounts, today, tables.standings.entries());
     remake_all(&mut tables.standings, |entry| expired(entry, today));
 }
 
@@ -101,21 +102,19 @@ impl ClosedDay {
     // The day opens under its date, or stays closed.
     pub(crate) fn open<AccountBook: Book<Account>, DeviceBook: Book<Device>>(
         self,
-        accounts: &mut AccountBook,
-        devices: &mut DeviceBook,
-        tables: &mut Tables<'_>,
+        register: &mut Register<'_, AccountBook, DeviceBook>,
         order: NewDay,
     ) -> Result<OpenDay, (Fault, ClosedDay)>
-        ensures settles { MatchResult result (λ day. Opened order (state_of false self.figures (AccountBook.Book.meaning accounts.old) (DeviceBook.Book.meaning devices.old) tables.old) (state_of true day.figures (AccountBook.Book.meaning accounts.new) (DeviceBook.Book.meaning devices.new) tables.new)) (λ refused. StillClosed order (state_of false self.figures (AccountBook.Book.meaning accounts.old) (DeviceBook.Book.meaning devices.old) tables.old) refused.0 self.figures refused.1.figures) }
-        ensures refusal_leaves_accounts { is_ok result ≡ false → accounts.new ≡ accounts.old }
-        ensures leaves_devices { devices.new ≡ devices.old }
-        ensures refusal_leaves_tables { is_ok result ≡ false → tables.new ≡ tables.old }
+        ensures settles { MatchResult result (λ day. Opened order (state_of false self.figures (AccountBook.Book.meaning register.old.accounts) (DeviceBook.Book.meaning register.old.devices) register.old.tables) (state_of true day.figures (AccountBook.Book.meaning register.new.accounts) (DeviceBook.Book.meaning register.new.devices) register.new.tables)) (λ refused. StillClosed order (state_of false self.figures (AccountBook.Book.meaning register.old.accounts) (DeviceBook.Book.meaning register.old.devices) register.old.tables) refused.0 self.figures refused.1.figures) }
+        ensures refusal_leaves_accounts { is_ok result ≡ false → register.new.accounts ≡ register.old.accounts }
+        ensures leaves_devices { register.new.devices ≡ register.old.devices }
+        ensures refusal_leaves_tables { is_ok result ≡ false → register.new.tables ≡ register.old.tables }
     {
         let ClosedDay { figures } = self;
         if let Err(fault) = check_date(figures.date, order.date) {
             return Err((fault, ClosedDay { figures }));
         }
-        expire(accounts, tables, order.date);
+        expire(register, order.date);
         Ok(OpenDay {
             figures: DayFigures {
                 date: order.date,

@@ -16,6 +16,7 @@ use crate::day::OpenDay;
 use crate::faults::Fault;
 use crate::issues::Issue;
 use crate::places::check_places;
+use crate::registers::Register;
 use crate::rows::{Origin, Period, Standing};
 use crate::tables::Tables;
 use books::{Book, Change, Posting, post};
@@ -44,40 +45,38 @@ impl OpenDay {
     // The checks of a declaration, in their order, before anything changes.
     fn judge_declaration<AccountBook: Book<Account>, DeviceBook: Book<Device>>(
         &self,
-        accounts: &AccountBook,
-        devices: &DeviceBook,
-        tables: &Tables<'_>,
+        register: &Register<'_, AccountBook, DeviceBook>,
         order: Declare,
     ) -> Result<(Declaration, Issue), Fault>
-        ensures judged { Judged (declaration_checks order (state_of true self.now.figures (AccountBook.Book.meaning accounts.now) (DeviceBook.Book.meaning devices.now) tables.now)) (Reckoned order (state_of true self.now.figures (AccountBook.Book.meaning accounts.now) (DeviceBook.Book.meaning devices.now) tables.now) tables.now) result }
+        ensures judged { Judged (declaration_checks order (state_of true self.now.figures (AccountBook.Book.meaning register.now.accounts) (DeviceBook.Book.meaning register.now.devices) register.now.tables)) (Reckoned order (state_of true self.now.figures (AccountBook.Book.meaning register.now.accounts) (DeviceBook.Book.meaning register.now.devices) register.now.tables) register.now.tables) result }
     {
         let declaration = order.check()?;
-        check_member(devices, declaration.device)?;
-        check_member(accounts, declaration.account)?;
+        check_member(&register.devices, declaration.device)?;
+        check_member(&register.accounts, declaration.account)?;
         check_days(self.figures.date, declaration.days.last)?;
-        let issue = Issue::of(devices, self.figures.last_number, declaration);
-        check_places(tables, issue)?;
+        let issue = Issue::of(&register.devices, self.figures.last_number, declaration);
+        check_places(&register.tables, issue)?;
         Ok((declaration, issue))
     }
 
     // The certificates that result are counted in the answer. The period is laid down even if there are none.
     pub(crate) fn declare<AccountBook: Book<Account>, DeviceBook: Book<Device>>(
         &mut self,
-        accounts: &mut AccountBook,
-        devices: &mut DeviceBook,
-        tables: &mut Tables<'_>,
+        register: &mut Register<'_, AccountBook, DeviceBook>,
         order: Declare,
     ) -> Result<CertificateCount, Fault>
-        ensures settles { Settles (declaration_checks order) (issued_count order) (declaration order) (state_of true self.old.figures (AccountBook.Book.meaning accounts.old) (DeviceBook.Book.meaning devices.old) tables.old) result (state_of true self.new.figures (AccountBook.Book.meaning accounts.new) (DeviceBook.Book.meaning devices.new) tables.new) }
+        ensures settles { Settles (declaration_checks order) (issued_count order) (declaration order) (state_of true self.old.figures (AccountBook.Book.meaning register.old.accounts) (DeviceBook.Book.meaning register.old.devices) register.old.tables) result (state_of true self.new.figures (AccountBook.Book.meaning register.new.accounts) (DeviceBook.Book.meaning register.new.devices) register.new.tables) }
         ensures refusal_leaves_day { is_ok result ≡ false → self.new ≡ self.old }
-        ensures refusal_leaves_accounts { is_ok result ≡ false → accounts.new ≡ accounts.old }
-        ensures refusal_leaves_devices { is_ok result ≡ false → devices.new ≡ devices.old }
-        ensures refusal_leaves_tables { is_ok result ≡ false → tables.new ≡ tables.old }
+        ensures refusal_leaves_accounts { is_ok result ≡ false → register.new.accounts ≡ register.old.accounts }
+        ensures refusal_leaves_devices { is_ok result ≡ false → register.new.devices ≡ register.old.devices }
+        ensures refusal_leaves_tables { is_ok result ≡ false → register.new.tables ≡ register.old.tables }
     {
-        let (declaration, issue) = self.judge_declaration(accounts, devices, tables, order)?;
-        lay_down(tables, declaration, issue);
-        credit(accounts, declaration.account, issue.count);
-        let _ = devices.write_totals(declaration.device, issue.left.0, issue.issued);
+        let (declaration, issue) = self.judge_declaration(register, order)?;
+        lay_down(&mut register.tables, declaration, issue);
+        credit(&mut register.accounts, declaration.account, issue.count);
+        let _ = register
+            .devices
+            .write_totals(declaration.device, issue.left.0, issue.issued);
         self.figures.last_number = issue.last_after(self.figures.last_number);
         Ok(issue.count)
     }

@@ -4,19 +4,11 @@ ghost use Rattle.range_map.specs.Map.{in_use};
 ghost use Rattle.register.specs.Checks.{not_held_at};
 ghost use Rattle.register.specs.Faults.{fault_in};
 ghost use Rattle.register.specs.Holdings.{gap_by, held_by, unheld};
-ghost use Rattle.register.specs.State.{is_account};
 
 use crate::faults::Fault;
 use crate::rows::Standing;
 use figures::Account;
 use range_map::{Entry, RangeMap};
-
-// The order of accounts answers Equal of the same account only.
-pub(crate) fn is_account(one: Account, other: Account) -> bool
-    ensures same { result ≡ is_account one other }
-{
-    one.compare(&other).is_eq()
-}
 
 // The first of the numbers that the account does not hold, along entries where a walk begins.
 fn first_unheld(entries: &[Entry<Standing>], account: Account, first: u64, last: u64) -> Option<u64>

@@ -2,46 +2,55 @@
 ghost use Rattle.std.specs.Prelude.{◌≡◌, true, false, length, is_ok, slice_set};
 ghost use Rattle.order_file.specs.Checked.{plain_offer};
 ghost use Rattle.register.specs.Bookings.{change_in, offer_of, offering};
-ghost use Rattle.register.specs.Checks.{offer_checks};
-ghost use Rattle.register.specs.Settled.{map_of, state_of, ledger_without_devices, Judged, Fits, Settles, next_offer};
+ghost use Rattle.register.specs.Checks.{offer_checks, to_itself};
+ghost use Rattle.register.specs.Faults.{fault_in};
+ghost use Rattle.register.specs.Settled.{map_of, state_of, Judged, Fits, Settles, next_offer};
 ghost use Rattle.register.specs.declared.rows.Standing.TheVariants.{Offered};
 
 use crate::checks::check_member;
 use crate::day::OpenDay;
 use crate::faults::Fault;
-use crate::holdings::is_account;
 use crate::numbers::check_numbers;
+use crate::registers::Register;
 use crate::rows::{Offer, OfferState, Standing};
 use crate::tables::Tables;
 use books::{Book, Change, Posting, post};
 use figures::{Account, Device, Table};
 use order_file::{MakeOffer, OfferTerms};
 
+// Nobody offers to itself.
+#[tactic(auto, using(figures::proofs::Derived::account_eq))]
+fn check_parties(terms: OfferTerms) -> Result<(), Fault>
+    ensures verdict { fault_in result ≡ to_itself terms.from terms.to }
+{
+    if terms.from == terms.to {
+        return Err(Fault::OfferedToItself {
+            account: terms.from,
+        });
+    }
+    Ok(())
+}
+
 impl OpenDay {
     // The checks of an offer, in their order, before anything changes.
-    fn judge_offer<AccountBook: Book<Account>>(
+    fn judge_offer<AccountBook: Book<Account>, DeviceBook: Book<Device>>(
         &self,
-        accounts: &AccountBook,
-        tables: &Tables<'_>,
+        register: &Register<'_, AccountBook, DeviceBook>,
         order: MakeOffer,
     ) -> Result<OfferTerms, Fault>
-        ensures judged { Judged (offer_checks order (state_of true self.now.figures (AccountBook.Book.meaning accounts.now) ledger_without_devices tables.now)) (λ t. (plain_offer t ≡ order) × Fits self.now.figures.offers (length tables.now.offers.now) t.numbers.first.0 t.numbers.last.0 tables.now.standings) result }
+        ensures judged { Judged (offer_checks order (state_of true self.now.figures (AccountBook.Book.meaning register.now.accounts) (DeviceBook.Book.meaning register.now.devices) register.now.tables)) (λ t. (plain_offer t ≡ order) × Fits self.now.figures.offers (length register.now.tables.offers.now) t.numbers.first.0 t.numbers.last.0 register.now.tables.standings) result }
     {
         let terms = order.check()?;
-        if is_account(terms.from, terms.to) {
-            return Err(Fault::OfferedToItself {
-                account: terms.from,
-            });
-        }
-        check_member(accounts, terms.from)?;
-        check_member(accounts, terms.to)?;
+        check_parties(terms)?;
+        check_member(&register.accounts, terms.from)?;
+        check_member(&register.accounts, terms.to)?;
         check_numbers(
-            &tables.standings,
+            &register.tables.standings,
             terms.from,
             terms.numbers,
             Table::Offers,
             self.figures.offers,
-            tables.offers.len(),
+            register.tables.offers.len(),
         )?;
         Ok(terms)
     }
@@ -49,23 +58,21 @@ impl OpenDay {
     // The numbers are offered under the next offer number, which is answered; both totals of the sender move.
     pub(crate) fn offer<AccountBook: Book<Account>, DeviceBook: Book<Device>>(
         &mut self,
-        accounts: &mut AccountBook,
-        devices: &mut DeviceBook,
-        tables: &mut Tables<'_>,
+        register: &mut Register<'_, AccountBook, DeviceBook>,
         order: MakeOffer,
     ) -> Result<u32, Fault>
-        ensures settles { Settles (offer_checks order) next_offer (offering order) (state_of true self.old.figures (AccountBook.Book.meaning accounts.old) (DeviceBook.Book.meaning devices.old) tables.old) result (state_of true self.new.figures (AccountBook.Book.meaning accounts.new) (DeviceBook.Book.meaning devices.new) tables.new) }
+        ensures settles { Settles (offer_checks order) next_offer (offering order) (state_of true self.old.figures (AccountBook.Book.meaning register.old.accounts) (DeviceBook.Book.meaning register.old.devices) register.old.tables) result (state_of true self.new.figures (AccountBook.Book.meaning register.new.accounts) (DeviceBook.Book.meaning register.new.devices) register.new.tables) }
         ensures refusal_leaves_day { is_ok result ≡ false → self.new ≡ self.old }
-        ensures refusal_leaves_accounts { is_ok result ≡ false → accounts.new ≡ accounts.old }
-        ensures leaves_devices { devices.new ≡ devices.old }
-        ensures refusal_leaves_tables { is_ok result ≡ false → tables.new ≡ tables.old }
+        ensures refusal_leaves_accounts { is_ok result ≡ false → register.new.accounts ≡ register.old.accounts }
+        ensures leaves_devices { register.new.devices ≡ register.old.devices }
+        ensures refusal_leaves_tables { is_ok result ≡ false → register.new.tables ≡ register.old.tables }
     {
-        let terms = self.judge_offer(accounts, tables, order)?;
+        let terms = self.judge_offer(register, order)?;
         let number = self.figures.offers + 1;
-        set_aside(tables, self.figures.offers, number, terms);
+        set_aside(&mut register.tables, self.figures.offers, number, terms);
         let count = terms.numbers.last.0 - terms.numbers.first.0 + 1;
         post(
-            accounts,
+            &mut register.accounts,
             Posting {
                 key: terms.from,
                 first: Change::Down(count),

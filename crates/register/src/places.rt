@@ -23,12 +23,10 @@ fn check_free<P: Payload>(map: &RangeMap<'_, P>, first: u64, last: u64) -> Resul
 
 // The map has a slot for one entry more.
 fn check_slot<P: Payload>(map: &RangeMap<'_, P>) -> Result<(), Fault>
-    ensures verdict { fault_in result ≡ has_slot P.Payload.home (map_of map.now) }
+    ensures verdict { fault_in result ≡ has_slot P.TABLE (map_of map.now) }
 {
     if map.full() {
-        return Err(Fault::from(MapFault::Full {
-            table: P::in_table(),
-        }));
+        return Err(Fault::from(MapFault::Full { table: P::TABLE }));
     }
     Ok(())
 }

@@ -3,7 +3,6 @@ ghost use Rattle.std.specs.Prelude.{◌≡◌};
 ghost use Rattle.figures.specs.declared.names.Table.TheVariants.{Periods, Origins, Standings};
 ghost use Rattle.register.specs.Holdings.{held_by, is_held, offered_under};
 
-use crate::holdings::is_account;
 use figures::{Account, CertificateNumber, Table, WattHours};
 use range_map::Payload;
 
@@ -16,11 +15,7 @@ pub struct Period {
 impl Payload for Period {
     const TABLE: Table = Table::Periods;
 
-    ghost home = { Periods };
-
-    fn in_table() -> Table {
-        Table::Periods
-    }
+    ghost TABLE = { Periods };
 }
 
 // Where a certificate comes from: its device's bare digits and its production days.
@@ -34,11 +29,7 @@ pub struct Origin {
 impl Payload for Origin {
     const TABLE: Table = Table::Origins;
 
-    ghost home = { Origins };
-
-    fn in_table() -> Table {
-        Table::Origins
-    }
+    ghost TABLE = { Origins };
 }
 
 // How a certificate stands.
@@ -59,10 +50,11 @@ impl Standing {
         matches!(self, Standing::Held(_))
     }
 
+    #[tactic(auto, using(figures::proofs::Derived::account_eq))]
     pub(crate) fn is_held_by(self, account: Account) -> bool
         ensures held { result ≡ held_by account self }
     {
-        matches!(self, Standing::Held(holder) if is_account(account, holder))
+        matches!(self, Standing::Held(holder) if account == holder)
     }
 
     pub(crate) fn is_offered_under(self, offer: u32) -> bool
@@ -75,11 +67,7 @@ impl Standing {
 impl Payload for Standing {
     const TABLE: Table = Table::Standings;
 
-    ghost home = { Standings };
-
-    fn in_table() -> Table {
-        Table::Standings
-    }
+    ghost TABLE = { Standings };
 }
 
 #[derive(Clone, Copy)]

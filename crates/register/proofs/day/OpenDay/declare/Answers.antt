@@ -9,9 +9,9 @@ returns g c =
     record {
       settles =
           declared c.args.order c.in_ok-declaration.declaration c.in_ok-declaration.issue c.args.self.now.figures c.last_after-self.result
-          (g.AccountBook.Book.meaning c.args.accounts.now) (g.AccountBook.Book.meaning c.credit.new.accounts)
-          (g.DeviceBook.Book.meaning c.args.devices.now) (g.DeviceBook.Book.meaning c.write_totals.new.self)
-          c.args.tables.now c.lay_down.new.tables
+          (g.AccountBook.Book.meaning c.args.register.now.accounts) (g.AccountBook.Book.meaning c.credit.new.accounts)
+          (g.DeviceBook.Book.meaning c.args.register.now.devices) (g.DeviceBook.Book.meaning c.write_totals.new.self)
+          c.args.register.now.tables c.lay_down.new.tables
           judged.verdict judged.ready.operands judged.ready.issue
           laid.periods laid.origins laid.standings laid.offers laid.cancellations
           c.credit.ensures.after c.write_totals.ensures.after c.last_after-self.ensures.last;

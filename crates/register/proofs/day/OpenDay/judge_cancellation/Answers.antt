@@ -2,13 +2,13 @@ use Rattle.std.proofs.Common.{◌≡◌, true, Some, None, Result, ap, ◌∙◌
 use Rattle.std.proofs.lemmas.Result.{err_from_is_err_and}
 use Rattle.order_file.specs.Checks.{bad_cancel}
 use Rattle.register.specs.Checks.{bad_at, cancellation_checks}
-use Rattle.register.specs.Settled.{state_of, ledger_without_devices}
+use Rattle.register.specs.Settled.{state_of}
 use Rattle.register.proofs.Verdicts.{Reaches, pass, known_rest, judged_err, ok_fault, ok_operand}
 use Rattle.register.proofs.day.OpenDay.judge_cancellation.Goals as goal
 
 pub returns-in_err-check_numbers : goal.returns-in_err-check_numbers
 returns-in_err-check_numbers g c =
-    let s = state_of true c.args.self.now.figures (g.AccountBook.Book.meaning c.args.accounts.now) ledger_without_devices c.args.tables.now in
+    let s = state_of true c.args.self.now.figures (g.AccountBook.Book.meaning c.args.register.now.accounts) (g.DeviceBook.Book.meaning c.args.register.now.devices) c.args.register.now.tables in
     let p = err_from_is_err_and c.from_residual-in_err-check_numbers.result c.from_residual-in_err-check_numbers.ensures.1 in
     let f = c.in_err-check_numbers.field-0.0 in
     record {

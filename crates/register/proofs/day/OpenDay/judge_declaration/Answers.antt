@@ -7,7 +7,7 @@ use Rattle.register.proofs.day.OpenDay.judge_declaration.Goals as goal
 
 pub returns-in_err-check_days : goal.returns-in_err-check_days
 returns-in_err-check_days g c =
-    let s = state_of true c.args.self.now.figures (g.AccountBook.Book.meaning c.args.accounts.now) (g.DeviceBook.Book.meaning c.args.devices.now) c.args.tables.now in
+    let s = state_of true c.args.self.now.figures (g.AccountBook.Book.meaning c.args.register.now.accounts) (g.DeviceBook.Book.meaning c.args.register.now.devices) c.args.register.now.tables in
     let p = err_from_is_err_and c.from_residual-in_err-check_days.result c.from_residual-in_err-check_days.ensures.1 in
     record {
       judged = judged_err (p.1 ∙ ap Result.Err p.2)
@@ -20,7 +20,7 @@ returns-in_err-check_days g c =
 
 pub returns-in_err-check_places : goal.returns-in_err-check_places
 returns-in_err-check_places g c =
-    let s = state_of true c.args.self.now.figures (g.AccountBook.Book.meaning c.args.accounts.now) (g.DeviceBook.Book.meaning c.args.devices.now) c.args.tables.now in
+    let s = state_of true c.args.self.now.figures (g.AccountBook.Book.meaning c.args.register.now.accounts) (g.DeviceBook.Book.meaning c.args.register.now.devices) c.args.register.now.tables in
     let p = err_from_is_err_and c.from_residual-in_err-check_places.result c.from_residual-in_err-check_places.ensures.1 in
     record {
       judged = judged_err (p.1 ∙ ap Result.Err p.2)
@@ -34,7 +34,7 @@ returns-in_err-check_places g c =
 
 pub returns : goal.returns
 returns g c =
-    let s = state_of true c.args.self.now.figures (g.AccountBook.Book.meaning c.args.accounts.now) (g.DeviceBook.Book.meaning c.args.devices.now) c.args.tables.now in
+    let s = state_of true c.args.self.now.figures (g.AccountBook.Book.meaning c.args.register.now.accounts) (g.DeviceBook.Book.meaning c.args.register.now.devices) c.args.register.now.tables in
     let d = c.in_ok-declaration.declaration in
     let i = c.of-issue.result in
     record {
