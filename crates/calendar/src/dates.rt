@@ -3,9 +3,7 @@ ghost use Rattle.std.specs.Prelude.{◌≡◌, ◌+◌, ◌-◌, ◌<◌, min};
 ghost use Rattle.calendar.specs.Dates.{date_of, last_valid_day, twelve_months_on, working};
 
 use crate::months::{in_month, month_length, month_start};
-use figures::LAST_DAY;
-
-const FIRST_YEAR: u16 = 2000;
+use figures::{FIRST_YEAR, LAST_DAY};
 
 const MONTHS_VALID: usize = 12;
 
