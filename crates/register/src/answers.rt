@@ -29,13 +29,14 @@ use figures::{Account, Device, MAX_MEMBERS};
 use order_file::{AcceptOffer, OfferAnswer, RecallOffer};
 use range_map::Entry;
 
-#[derive(Clone, Copy)]
+#[derive(Clone, Copy, PartialEq, Eq, Debug)]
 pub(crate) enum OfferCall {
     Accept,
     Recall,
 }
 
-// What becomes of an offer, by its state and the call; a closed one stays as it is.
+// What becomes of an offer, by its state and the call; a closed one stays as it is. One match on both
+// shows every case beside the others, which a closure for each call would part.
 fn answer_offer(offer: &mut Offer, call: OfferCall)
     ensures answered { offer.new ≡ answered_by call offer.old }
 {
@@ -46,7 +47,8 @@ fn answer_offer(offer: &mut Offer, call: OfferCall)
     }
 }
 
-// The offer of that number: not 0, made, and within its table.
+// The offer of that number: not 0, made, and within its table. The count is the day's, which outlives the
+// lent rows, so the two come apart.
 fn find_offer(offers: &[Offer], made: u32, number: u32) -> Option<Offer>
     ensures found { result ≡ offer_at number made offers.now }
 {

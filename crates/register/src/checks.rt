@@ -22,7 +22,7 @@ pub(crate) fn check_member<K: Key, B: Book<K>>(book: &B, key: K) -> Result<(), F
 pub(crate) fn check_row(table: Table, used: u32, slots: usize) -> Result<(), Fault>
     ensures verdict { fault_in result ≡ row_free table used slots }
     ensures free { OnOk result (used < slots) }
-    ensures few { OnOk result (used < 99999999) }
+    ensures few { OnOk result (used < MAX_MEMBERS) }
 {
     if used as usize >= slots.min(MAX_MEMBERS) {
         return Err(Fault::Full { table });

@@ -9,7 +9,7 @@ use figures::{Account, Table};
 use order_file::OperandFault;
 use range_map::MapFault;
 
-#[derive(Clone, Copy)]
+#[derive(Clone, Copy, PartialEq, Eq, Debug)]
 pub enum Fault {
     Operand(OperandFault),
     Book(BookFault),
@@ -27,6 +27,7 @@ pub enum Fault {
 }
 
 impl Fault {
+    // A method and no `From`: the name says which figure of the fault is meant.
     pub fn number(&self) -> u8
         ensures number { result ≡ number_of self.now }
     {

@@ -14,7 +14,7 @@ use order_file::Declaration;
 // Each device has a stretch of so many positions in the table of periods, one for each day.
 const DAYS_OF_DEVICE: u64 = 32_768;
 
-#[derive(Clone, Copy)]
+#[derive(Clone, Copy, PartialEq, Eq, Debug)]
 pub struct Issue {
     pub count: CertificateCount,
     pub left: WattHours,

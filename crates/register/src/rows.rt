@@ -7,7 +7,7 @@ use figures::{Account, CertificateNumber, Table, WattHours};
 use range_map::Payload;
 
 // A declared period of a device: the energy that was reported for it.
-#[derive(Clone, Copy)]
+#[derive(Clone, Copy, PartialEq, Eq, Debug)]
 pub struct Period {
     pub energy: WattHours,
 }
@@ -19,7 +19,7 @@ impl Payload for Period {
 }
 
 // Where a certificate comes from: its device's bare digits and its production days.
-#[derive(Clone, Copy)]
+#[derive(Clone, Copy, PartialEq, Eq, Debug)]
 pub struct Origin {
     pub device: u64,
     pub first_day: u32,
@@ -33,7 +33,7 @@ impl Payload for Origin {
 }
 
 // How a certificate stands.
-#[derive(Clone, Copy)]
+#[derive(Clone, Copy, PartialEq, Eq, Debug)]
 pub enum Standing {
     Held(Account),
     // under an offer's number
@@ -70,14 +70,14 @@ impl Payload for Standing {
     ghost TABLE = { Standings };
 }
 
-#[derive(Clone, Copy)]
+#[derive(Clone, Copy, PartialEq, Eq, Debug)]
 pub enum OfferState {
     Open,
     Accepted,
     Recalled,
 }
 
-#[derive(Clone, Copy)]
+#[derive(Clone, Copy, PartialEq, Eq, Debug)]
 pub struct Offer {
     pub from: Account,
     pub to: Account,
@@ -86,7 +86,7 @@ pub struct Offer {
     pub state: OfferState,
 }
 
-#[derive(Clone, Copy)]
+#[derive(Clone, Copy, PartialEq, Eq, Debug)]
 pub struct Cancellation {
     pub account: Account,
     pub first: CertificateNumber,
