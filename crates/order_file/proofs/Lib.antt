@@ -1,4 +1,2 @@
 pub mod Lawful
-pub mod Numbers
-pub mod Printable
 pub mod Reading

@@ -1,5 +1,6 @@
 -- When an operand is lawful. Assumes nothing.
-use Rattle.std.specs.Prelude.{ℕ, Bool, true, not, ◌&&◌, List, [], ◌∷◌, ◌==◌, nat_le, slice_index}
+use Rattle.std.specs.Prelude.{ℕ, Bool, not, ◌&&◌, List, ◌==◌, nat_le, slice_index}
+use Rattle.std.specs.List.{list_all}
 use Rattle.figures.specs.Limits.{last_certificate_number, last_working_day, most_energy, first_year, last_year}
 
 -- certificate numbers from 1 to the last one, in order
@@ -21,8 +22,7 @@ abbrev pub printable : ℕ → Bool
 printable byte = nat_le 0x20 byte && nat_le byte 0x7E
 
 abbrev pub all_printable : List ℕ → Bool
-all_printable [] = true
-all_printable (byte ∷ bytes) = printable byte && all_printable bytes
+all_printable = list_all printable
 
 -- every byte prints, and the first is no blank
 abbrev pub beneficiary_lawful : List ℕ → Bool

@@ -13,7 +13,7 @@ pub struct Declaration {
     pub energy: WattHours,
 }
 
-#[derive(Clone, Copy)]
+#[derive(Clone, Copy, PartialEq, Eq, Debug)]
 pub struct OfferTerms {
     pub from: Account,
     pub to: Account,
@@ -21,13 +21,13 @@ pub struct OfferTerms {
 }
 
 // An acceptance or a recall.
-#[derive(Clone, Copy)]
+#[derive(Clone, Copy, PartialEq, Eq, Debug)]
 pub struct OfferAnswer {
     pub account: Account,
     pub offer: u32,
 }
 
-#[derive(Clone, Copy)]
+#[derive(Clone, Copy, PartialEq, Eq, Debug)]
 pub struct CancellationTerms {
     pub account: Account,
     pub numbers: NumberRange,

@@ -1,8 +1,7 @@
-// The command byte of each kind of order, and how many bytes of operands follow it.
+// The command byte of each kind of order.
 ghost use Rattle.std.specs.Prelude.{◌≡◌};
-ghost use Rattle.order_file.specs.Commands.{kind_of, width_of};
 
-#[derive(Clone, Copy)]
+#[derive(Clone, Copy, PartialEq, Eq, Debug)]
 pub(crate) enum Kind {
     Account,
     Device,
@@ -14,35 +13,29 @@ pub(crate) enum Kind {
     Cancel,
 }
 
-impl Kind {
-    pub(crate) fn of_command(command: u8) -> Option<Kind>
-        ensures kind { result ≡ kind_of command }
-    {
-        match command {
-            0x41 => Some(Kind::Account),
-            0x50 => Some(Kind::Device),
-            0x44 => Some(Kind::Day),
-            0x49 => Some(Kind::Declare),
-            0x4F => Some(Kind::Offer),
-            0x59 => Some(Kind::Accept),
-            0x52 => Some(Kind::Recall),
-            0x43 => Some(Kind::Cancel),
-            _ => None,
-        }
-    }
+// A byte that is no kind's command.
+#[derive(Clone, Copy, PartialEq, Eq, Debug)]
+pub(crate) struct NoCommand;
 
-    pub(crate) fn operand_width(self) -> usize
-        ensures width { result ≡ width_of self }
-    {
-        match self {
-            Kind::Account => 6,
-            Kind::Device => 8,
-            Kind::Day => 4,
-            Kind::Declare => 30,
-            Kind::Offer => 28,
-            Kind::Accept => 10,
-            Kind::Recall => 10,
-            Kind::Cancel => 48,
+impl TryFrom<u8> for Kind {
+    ghost use Rattle.std.specs.Result.{result_ok};
+    ghost use Rattle.order_file.specs.Commands.{kind_of};
+
+    type Error = NoCommand;
+
+    ghost try_from_gives = { λ command r. result_ok r ≡ kind_of command };
+
+    fn try_from(command: u8) -> Result<Kind, NoCommand> {
+        match command {
+            0x41 => Ok(Kind::Account),
+            0x50 => Ok(Kind::Device),
+            0x44 => Ok(Kind::Day),
+            0x49 => Ok(Kind::Declare),
+            0x4F => Ok(Kind::Offer),
+            0x59 => Ok(Kind::Accept),
+            0x52 => Ok(Kind::Recall),
+            0x43 => Ok(Kind::Cancel),
+            _ => Err(NoCommand),
         }
     }
 }

@@ -1,9 +1,8 @@
-// Where the operands of each kind stand, by their distance from the command byte, high byte first.
-// Every `operands` here starts just after the command byte.
-ghost use Rattle.std.specs.Prelude.{◌≡◌, ◌+◌, ◌*◌, ◌^◌, ◌<◌, ◌≤◌, length};
+// Where the operands of each kind stand, by their distance from the command byte, high byte first:
+// each kind of order is read from an array of just its own width.
+ghost use Rattle.std.specs.Prelude.{◌≡◌, ◌+◌, ◌^◌, ◌<◌, ◌≤◌, MatchOption, length, take, drop};
 ghost use Rattle.order_file.specs.Commands.{width_of};
-ghost use Rattle.order_file.specs.Layouts.{number_of_bytes, bytes_at, number_at, account_at, order_of};
-ghost use Rattle.order_file.specs.Layouts.{declare_of, make_offer_of, cancel_of};
+ghost use Rattle.order_file.specs.Layouts.{bytes_at, account_at, order_of};
 
 use crate::kinds::Kind;
 use crate::orders::{
@@ -11,68 +10,16 @@ use crate::orders::{
     RecallOffer, RegisterDevice,
 };
 
-// One byte more, below those before it.
-fn append_byte(value: u64, byte: u8) -> u64
-    requires room { value < 2 ^ 56 }
-    ensures appended { result ≡ value * 256 + byte }
-{
-    value * 256 + byte as u64
-}
-
-// The number that these bytes write, high byte first.
-fn number(bytes: &[u8]) -> u64
-    requires few { length bytes.now ≤ 8 }
-    ensures value { result ≡ number_of_bytes bytes.now }
-    ensures bound { result < 256 ^ length bytes.now }
-{
-    let mut value = 0;
-    for byte in bytes {
-        value = append_byte(value, *byte);
-    }
-    value
-}
-
-// The `width` bytes that stand `distance` bytes from the command byte.
-fn field(operands: &[u8], distance: usize, width: usize) -> &[u8]
+// The bytes that stand `distance` bytes from the command byte.
+fn field<const N: usize>(operands: &[u8], distance: usize) -> [u8; N]
     requires after_command { 1 ≤ distance }
-    requires within { distance + width ≤ length operands.now + 1 }
-    ensures bytes { result.now ≡ bytes_at operands.now distance width }
-    ensures long { length result.now ≡ width }
+    requires within { distance + N ≤ length operands.now + 1 }
+    ensures bytes { result ≡ bytes_at operands.now distance N }
 {
     let from = distance - 1;
-    &operands[from..from + width]
-}
-
-fn byte_at(operands: &[u8], distance: usize) -> u8
-    requires after_command { 1 ≤ distance }
-    requires within { distance ≤ length operands.now }
-    ensures number { result ≡ number_at operands.now distance 1 }
-{
-    number(field(operands, distance, 1)) as u8
-}
-
-fn u16_at(operands: &[u8], distance: usize) -> u16
-    requires after_command { 1 ≤ distance }
-    requires within { distance + 2 ≤ length operands.now + 1 }
-    ensures number { result ≡ number_at operands.now distance 2 }
-{
-    number(field(operands, distance, 2)) as u16
-}
-
-fn u32_at(operands: &[u8], distance: usize) -> u32
-    requires after_command { 1 ≤ distance }
-    requires within { distance + 4 ≤ length operands.now + 1 }
-    ensures number { result ≡ number_at operands.now distance 4 }
-{
-    number(field(operands, distance, 4)) as u32
-}
-
-fn u64_at(operands: &[u8], distance: usize) -> u64
-    requires after_command { 1 ≤ distance }
-    requires within { distance + 8 ≤ length operands.now + 1 }
-    ensures number { result ≡ number_at operands.now distance 8 }
-{
-    number(field(operands, distance, 8))
+    let mut field = [0; N];
+    field.copy_from_slice(&operands[from..from + N]);
+    field
 }
 
 fn account_at(operands: &[u8], distance: usize) -> AccountOperand
@@ -81,77 +28,148 @@ fn account_at(operands: &[u8], distance: usize) -> AccountOperand
     ensures account { result ≡ account_at operands.now distance }
 {
     AccountOperand {
-        first: byte_at(operands, distance),
-        second: byte_at(operands, distance + 1),
-        number: u32_at(operands, distance + 2),
+        first: u8::from_be_bytes(field(operands, distance)),
+        second: u8::from_be_bytes(field(operands, distance + 1)),
+        number: u32::from_be_bytes(field(operands, distance + 2)),
     }
 }
 
-fn declare_order(operands: &[u8]) -> Declare
-    requires whole { length operands.now ≡ 30 }
-    ensures order { result ≡ declare_of operands.now }
+impl From<[u8; 6]> for OpenAccount {
+    ghost use Rattle.order_file.specs.Layouts.{open_account_of};
+
+    ghost from_gives = { λ operands order. order ≡ open_account_of operands };
+
+    fn from(operands: [u8; 6]) -> OpenAccount {
+        OpenAccount {
+            account: account_at(&operands, 1),
+        }
+    }
+}
+
+impl From<[u8; 8]> for RegisterDevice {
+    ghost use Rattle.order_file.specs.Layouts.{register_device_of};
+
+    ghost from_gives = { λ operands order. order ≡ register_device_of operands };
+
+    fn from(operands: [u8; 8]) -> RegisterDevice {
+        RegisterDevice {
+            device: u64::from_be_bytes(operands),
+        }
+    }
+}
+
+impl From<[u8; 4]> for NewDay {
+    ghost use Rattle.order_file.specs.Layouts.{new_day_of};
+
+    ghost from_gives = { λ operands order. order ≡ new_day_of operands };
+
+    fn from(operands: [u8; 4]) -> NewDay {
+        NewDay {
+            date: u32::from_be_bytes(operands),
+        }
+    }
+}
+
+impl From<[u8; 30]> for Declare {
+    ghost use Rattle.order_file.specs.Layouts.{declare_of};
+
+    ghost from_gives = { λ operands order. order ≡ declare_of operands };
+
+    fn from(operands: [u8; 30]) -> Declare {
+        Declare {
+            device: u64::from_be_bytes(field(&operands, 1)),
+            account: account_at(&operands, 9),
+            first_day: u32::from_be_bytes(field(&operands, 15)),
+            last_day: u32::from_be_bytes(field(&operands, 19)),
+            energy: u64::from_be_bytes(field(&operands, 23)),
+        }
+    }
+}
+
+impl From<[u8; 28]> for MakeOffer {
+    ghost use Rattle.order_file.specs.Layouts.{make_offer_of};
+
+    ghost from_gives = { λ operands order. order ≡ make_offer_of operands };
+
+    fn from(operands: [u8; 28]) -> MakeOffer {
+        MakeOffer {
+            from: account_at(&operands, 1),
+            to: account_at(&operands, 7),
+            first: u64::from_be_bytes(field(&operands, 13)),
+            last: u64::from_be_bytes(field(&operands, 21)),
+        }
+    }
+}
+
+impl From<[u8; 10]> for AcceptOffer {
+    ghost use Rattle.order_file.specs.Layouts.{accept_offer_of};
+
+    ghost from_gives = { λ operands order. order ≡ accept_offer_of operands };
+
+    fn from(operands: [u8; 10]) -> AcceptOffer {
+        AcceptOffer {
+            account: account_at(&operands, 1),
+            offer: u32::from_be_bytes(field(&operands, 7)),
+        }
+    }
+}
+
+impl From<[u8; 10]> for RecallOffer {
+    ghost use Rattle.order_file.specs.Layouts.{recall_offer_of};
+
+    ghost from_gives = { λ operands order. order ≡ recall_offer_of operands };
+
+    fn from(operands: [u8; 10]) -> RecallOffer {
+        RecallOffer {
+            account: account_at(&operands, 1),
+            offer: u32::from_be_bytes(field(&operands, 7)),
+        }
+    }
+}
+
+impl From<[u8; 48]> for Cancel {
+    ghost use Rattle.order_file.specs.Layouts.{cancel_of};
+
+    ghost from_gives = { λ operands order. order ≡ cancel_of operands };
+
+    fn from(operands: [u8; 48]) -> Cancel {
+        Cancel {
+            account: account_at(&operands, 1),
+            first: u64::from_be_bytes(field(&operands, 7)),
+            last: u64::from_be_bytes(field(&operands, 15)),
+            year: u16::from_be_bytes(field(&operands, 23)),
+            beneficiary: field(&operands, 25),
+        }
+    }
+}
+
+// The order that the first bytes write, and the bytes after them, if there are as many. No array is
+// wider than `width` says.
+fn split<O: From<[u8; W]>, F: FnOnce(O) -> Order, const W: usize>(
+    bytes: &[u8],
+    order: F,
+) -> Option<(Order, &[u8])>
+    requires width { W < 2 ^ 63 }
+    requires callable { F.IsAlwaysCallable order }
+    ensures front { MatchOption result (length bytes.now < W) (λ read. (W ≤ length bytes.now) × ((operands : O) × O.from_gives (take W bytes.now) operands × F.post order operands read.0) × (read.1.now ≡ drop W bytes.now)) }
 {
-    Declare {
-        device: u64_at(operands, 1),
-        account: account_at(operands, 9),
-        first_day: u32_at(operands, 15),
-        last_day: u32_at(operands, 19),
-        energy: u64_at(operands, 23),
-    }
+    let (operands, after) = bytes.split_first_chunk()?;
+    Some((order(O::from(*operands)), after))
 }
 
-fn offer_order(operands: &[u8]) -> MakeOffer
-    requires whole { length operands.now ≡ 28 }
-    ensures order { result ≡ make_offer_of operands.now }
-{
-    MakeOffer {
-        from: account_at(operands, 1),
-        to: account_at(operands, 7),
-        first: u64_at(operands, 13),
-        last: u64_at(operands, 21),
-    }
-}
-
-fn cancel_order(operands: &[u8]) -> Cancel
-    requires whole { length operands.now ≡ 48 }
-    ensures order { result ≡ cancel_of operands.now }
-{
-    let mut beneficiary = [0; 24];
-    beneficiary.copy_from_slice(field(operands, 25, 24));
-    Cancel {
-        account: account_at(operands, 1),
-        first: u64_at(operands, 7),
-        last: u64_at(operands, 15),
-        year: u16_at(operands, 23),
-        beneficiary,
-    }
-}
-
-// The order of this kind that the operands write.
-pub(crate) fn order_of(kind: Kind, operands: &[u8]) -> Order
-    requires whole { length operands.now ≡ width_of kind }
-    ensures order { result ≡ order_of kind operands.now }
+// The order of this kind that stands just after its command byte, and the bytes after it, if all of
+// its operands are there.
+pub(crate) fn split_order(kind: Kind, bytes: &[u8]) -> Option<(Order, &[u8])>
+    ensures order { MatchOption result (length bytes.now < width_of kind) (λ read. (width_of kind ≤ length bytes.now) × (read.0 ≡ order_of kind (take (width_of kind) bytes.now)) × (read.1.now ≡ drop (width_of kind) bytes.now)) }
 {
     match kind {
-        Kind::Account => Order::Account(OpenAccount {
-            account: account_at(operands, 1),
-        }),
-        Kind::Device => Order::Device(RegisterDevice {
-            device: u64_at(operands, 1),
-        }),
-        Kind::Day => Order::Day(NewDay {
-            date: u32_at(operands, 1),
-        }),
-        Kind::Declare => Order::Declare(declare_order(operands)),
-        Kind::Offer => Order::Offer(offer_order(operands)),
-        Kind::Accept => Order::Accept(AcceptOffer {
-            account: account_at(operands, 1),
-            offer: u32_at(operands, 7),
-        }),
-        Kind::Recall => Order::Recall(RecallOffer {
-            account: account_at(operands, 1),
-            offer: u32_at(operands, 7),
-        }),
-        Kind::Cancel => Order::Cancel(cancel_order(operands)),
+        Kind::Account => split(bytes, Order::Account),
+        Kind::Device => split(bytes, Order::Device),
+        Kind::Day => split(bytes, Order::Day),
+        Kind::Declare => split(bytes, Order::Declare),
+        Kind::Offer => split(bytes, Order::Offer),
+        Kind::Accept => split(bytes, Order::Accept),
+        Kind::Recall => split(bytes, Order::Recall),
+        Kind::Cancel => split(bytes, Order::Cancel),
     }
 }

@@ -1,79 +1,77 @@
-// Makes a checked value of each kind of operand, exactly if the operand is lawful.
-ghost use Rattle.std.specs.Prelude.{◌≡◌, if◌then◌else◌, Some, None};
+// What a checked operand is, and the check of one operand at its place in an order.
+ghost use Rattle.std.specs.Prelude.{◌≡◌, Bool, true, if◌then◌else◌, Some, None, IfOk};
 ghost use Rattle.std.specs.Option.{option_map};
-ghost use Rattle.order_file.specs.Checked.{number_ends, day_ends};
-ghost use Rattle.order_file.specs.Operands.{numbers_lawful, days_lawful, year_lawful, printable, all_printable, beneficiary_lawful};
+ghost use Rattle.order_file.specs.Checks.{refused_at, operand};
 
-use crate::beneficiary::Beneficiary;
-use crate::day_range::DayRange;
-use crate::number_range::NumberRange;
-use crate::year::Year;
-use figures::{CertificateNumber, FIRST_YEAR, LAST_DAY, LAST_YEAR, MAX_CERTIFICATE_NUMBER};
+use crate::faults::OperandFault;
+use crate::orders::AccountOperand;
+use figures::{Account, Device, MAX_ENERGY, WattHours};
 
-impl NumberRange {
-    pub(crate) fn new(first: u64, last: u64) -> Option<NumberRange>
-        ensures exactly_lawful { option_map number_ends result ≡ (if numbers_lawful first last then Some (first, last) else None) }
-    {
-        if first >= 1 && first <= last && last <= MAX_CERTIFICATE_NUMBER {
-            Some(NumberRange {
-                first: CertificateNumber(first),
-                last: CertificateNumber(last),
-            })
-        } else {
-            None
-        }
-    }
+// The value of one operand, which only a lawful one has. A conversion of the project's own, since
+// `TryFrom` between two types of other crates is not for this crate to write.
+pub(crate) trait Checked: Sized {
+    // The operand as it stands in an order.
+    type Plain;
+
+    ghost lawful: { Self.Plain → Bool };
+
+    // What a value says as an operand.
+    ghost plain: { Self → Self.Plain };
+
+    fn checked(operand: Self::Plain) -> Option<Self>
+        ensures exactly_lawful { option_map plain result ≡ (if lawful operand then Some operand else None) };
 }
 
-impl DayRange {
-    pub(crate) fn new(first: u32, last: u32) -> Option<DayRange>
-        ensures exactly_lawful { option_map day_ends result ≡ (if days_lawful first last then Some (first, last) else None) }
-    {
-        if first <= last && last <= LAST_DAY {
-            Some(DayRange { first, last })
-        } else {
-            None
-        }
-    }
-}
-
-impl Year {
-    pub(crate) fn new(year: u16) -> Option<Year>
-        ensures exactly_lawful { option_map (λ y. y.year) result ≡ (if year_lawful year then Some year else None) }
-    {
-        if year >= FIRST_YEAR && year <= LAST_YEAR {
-            Some(Year { year })
-        } else {
-            None
-        }
-    }
-}
-
-fn is_printable(byte: u8) -> bool
-    ensures printable { result ≡ printable byte }
+// The operand's value, or a refusal at its distance from the command byte.
+pub(crate) fn check<T: Checked>(plain: T::Plain, distance: usize) -> Result<T, OperandFault>
+    ensures refused_at { refused_at result ≡ operand (T.lawful plain) distance None }
+    ensures checked { IfOk result (λ value. T.plain value ≡ plain) }
+    ensures lawful { IfOk result (λ value. T.lawful (T.plain value) ≡ true) }
 {
-    byte >= 0x20 && byte <= 0x7E
+    T::checked(plain).ok_or(OperandFault { distance })
 }
 
-fn all_printable(bytes: &[u8]) -> bool
-    ensures all { result ≡ all_printable bytes.now }
-{
-    for byte in bytes {
-        if !is_printable(*byte) {
-            return false;
-        }
+impl Checked for Account {
+    ghost use Rattle.order_file.specs.Checked.{plain_account};
+    ghost use Rattle.order_file.specs.Checks.{lawful_account};
+
+    type Plain = AccountOperand;
+
+    ghost lawful = { lawful_account };
+
+    ghost plain = { plain_account };
+
+    fn checked(operand: AccountOperand) -> Option<Account> {
+        Account::new(operand.first, operand.second, operand.number)
     }
-    true
 }
 
-impl Beneficiary {
-    pub(crate) fn new(bytes: [u8; 24]) -> Option<Beneficiary>
-        ensures exactly_lawful { option_map (λ b. b.bytes) result ≡ (if beneficiary_lawful bytes then Some bytes else None) }
-    {
-        if bytes[0] != b' ' && all_printable(&bytes) {
-            Some(Beneficiary { bytes })
-        } else {
-            None
-        }
+impl Checked for Device {
+    ghost use Rattle.figures.specs.Gs1.{gs1};
+
+    type Plain = u64;
+
+    ghost lawful = { gs1 };
+
+    ghost plain = { λ device. device.digits };
+
+    fn checked(digits: u64) -> Option<Device> {
+        Device::new(digits)
+    }
+}
+
+impl Checked for WattHours {
+    ghost use Rattle.order_file.specs.Operands.{energy_lawful};
+
+    type Plain = u64;
+
+    ghost lawful = { energy_lawful };
+
+    ghost plain = { λ energy. energy.0 };
+
+    fn checked(energy: u64) -> Option<WattHours> {
+        (1..=MAX_ENERGY)
+            .contains(&energy)
+            .then_some(WattHours(energy))
     }
 }

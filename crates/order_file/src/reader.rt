@@ -4,7 +4,7 @@ ghost use Rattle.order_file.specs.Reading.{read_order};
 
 use crate::faults::ReadFault;
 use crate::kinds::Kind;
-use crate::layouts::order_of;
+use crate::layouts::split_order;
 use crate::orders::Order;
 
 // The order at the front of `bytes` and the bytes after it. `place` is where the front stands in the
@@ -13,16 +13,7 @@ pub fn read_order<'a>(bytes: &'a [u8], place: usize) -> Result<(Order, &'a [u8])
     ensures order_and_rest { elim result [ Ok read ↦ read_order bytes.now place ≡ Ok (read.0, read.1.now) | Err fault ↦ read_order bytes.now place ≡ Err fault ] }
     ensures shorter_rest { elim result [ Ok read ↦ length read.1.now < length bytes.now | Err fault ↦ Unit {0} ] }
 {
-    let [command, rest @ ..] = bytes else {
-        return Err(ReadFault::CutShort { place });
-    };
-    let Some(kind) = Kind::of_command(*command) else {
-        return Err(ReadFault::UnknownCommand { place });
-    };
-    let width = kind.operand_width();
-    if rest.len() < width {
-        return Err(ReadFault::CutShort { place });
-    }
-    let (operands, after) = rest.split_at(width);
-    Ok((order_of(kind, operands), after))
+    let (command, rest) = bytes.split_first().ok_or(ReadFault::CutShort { place })?;
+    let kind = Kind::try_from(*command).map_err(|_| ReadFault::UnknownCommand { place })?;
+    split_order(kind, rest).ok_or(ReadFault::CutShort { place })
 }
