@@ -5,7 +5,6 @@ use Rattle.figures.specs.Limits.{most_members}
 use Rattle.books.specs.Ledger.{Ledger, apart}
 use Rattle.books_in_order.specs.KeyOrder.{rises}
 use Rattle.books.specs.Rows.{ordered, Once}
-use Rattle.books_in_order.specs.declared.in_order.InOrder.{InOrder}
 use Rattle.books.specs.declared.rows.Row.{Row}
 
 -- the book of the first n slots
@@ -20,12 +19,3 @@ pub record KeyedSound {P : Type 0} (order : P → P → Ordering) (slots : List 
   pub each : Once Some n (take n slots)
   pub rising : rises order (take n slots) ≡ true
   pub alone : apart order (ordered Some n (take n slots)) ≡ true
-
-abbrev pub rows_in_use : {P : Type 0} → InOrder P → List (Row P)
-rows_in_use b = take b.used b.rows.now
-
-abbrev pub in_order_ledger : {P : Type 0} → InOrder P → Ledger P
-in_order_ledger b = keyed_ledger b.rows.now b.used
-
-abbrev pub InOrderSound : {P : Type 0} → (P → P → Ordering) → InOrder P → Type 0
-InOrderSound order b = KeyedSound order b.rows.now b.used
