@@ -5,7 +5,6 @@ use Rattle.figures.specs.Limits.{most_members}
 use Rattle.books.specs.Ledger.{Ledger, apart}
 use Rattle.books_hashed.specs.Probing.{Settled}
 use Rattle.books.specs.Rows.{ordered, Once}
-use Rattle.books_hashed.specs.declared.hashed.Hashed.{Hashed}
 use Rattle.books.specs.declared.rows.Row.{Row}
 
 abbrev pub held : {P : Type 0} → Option (Row P) → Option (Row P)
@@ -23,9 +22,3 @@ pub record TableSound {P : Type 0} (order : P → P → Ordering) (spread : P �
   pub each : Once held n slots
   pub settled : Settled order spread slots
   pub alone : apart order (ordered held n slots) ≡ true
-
-abbrev pub hashed_ledger : {P : Type 0} → Hashed P → Ledger P
-hashed_ledger b = table_ledger b.slots.now b.used
-
-abbrev pub HashedSound : {P : Type 0} → (P → P → Ordering) → (P → ℕ) → Hashed P → Type 0
-HashedSound order spread b = TableSound order spread b.slots.now b.used
