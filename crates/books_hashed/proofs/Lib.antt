@@ -1,4 +1,3 @@
 pub mod HashTables
 pub mod ProbeTurns
 pub mod Probes
-pub mod SameBook

@@ -1,16 +1,15 @@
-// A hash table with linear probing: finding a key's slot, and changing what a slot holds.
-ghost use Rattle.std.specs.Prelude.{◌≡◌, ℕ, ◌+◌, ◌<◌, cond, length, Some, None, slice_index_or, slice_set};
+// A hash table with linear probing: finding a key's slot, and putting a row into one.
+ghost use Rattle.std.specs.Prelude.{◌≡◌, ℕ, ◌+◌, ◌<◌, length, Some, None, slice_index_or, slice_set};
 ghost use Rattle.std.specs.Option.{option_map};
 ghost use Rattle.books.specs.Ledger.{matches};
-ghost use Rattle.books_hashed.specs.Probing.{glanced, next_slot, probe_for};
+ghost use Rattle.books_hashed.specs.Probing.{glanced, probe_for};
 ghost use Rattle.books.specs.Rows.{with_totals};
 ghost use Rattle.books.specs.declared.rows.Row.{Row};
 
 use books::{Key, Row};
-use std::cmp::Ordering;
 
 // Where a probe ends: at the key, at a free slot before it met the key, or at neither after all slots.
-#[derive(Clone, Copy)]
+#[derive(Clone, Copy, PartialEq, Eq, Debug)]
 pub(crate) enum Probe {
     Found(usize),
     Free(usize),
@@ -21,23 +20,14 @@ pub(crate) enum Probe {
 fn glance<K: Key>(slot: Option<Row<K::Plain>>, key: K::Plain, at: usize) -> Option<Probe>
     ensures glanced { result ≡ glanced (matches K.Key.order key) (option_map (λ row. row.key) slot) at }
 {
-    let Some(row) = slot else {
-        return Some(Probe::Free(at));
-    };
-    match K::compare(key, row.key) {
-        Ordering::Equal => Some(Probe::Found(at)),
-        _ => None,
+    match slot {
+        None => Some(Probe::Free(at)),
+        Some(row) if K::compare(key, row.key).is_eq() => Some(Probe::Found(at)),
+        Some(_) => None,
     }
 }
 
-fn next_slot(slots: usize, at: usize) -> usize
-    requires within { at < slots }
-    ensures next { result ≡ next_slot slots at }
-    ensures stays_within { result < slots }
-{
-    if at + 1 < slots { at + 1 } else { 0 }
-}
-
+// From the key's home slot on, round the end of the table.
 pub(crate) fn probe_for<K: Key>(slots: &[Option<Row<K::Plain>>], key: K::Plain) -> Probe
     ensures ends { result ≡ probe_for K.Key.order K.Key.spread key slots.now }
 {
@@ -45,47 +35,43 @@ pub(crate) fn probe_for<K: Key>(slots: &[Option<Row<K::Plain>>], key: K::Plain) 
     if count == 0 {
         return Probe::Full;
     }
-    let mut at = (K::hashed(key) % count as u64) as usize;
-    for _step in 0..count {
-        let slot = slots[at];
-        if let Some(end) = glance::<K>(slot, key, at) {
+    let home = (K::hashed(key) % count as u64) as usize;
+    for at in (home..count).chain(0..home) {
+        if let Some(end) = glance::<K>(slots[at], key, at) {
             return end;
         }
-        at = next_slot(count, at);
     }
     Probe::Full
 }
 
-pub(crate) fn slot_at<P: Copy>(slots: &[Option<Row<P>>], at: usize) -> Option<Row<P>>
-    requires within { at < length slots.now }
-    ensures slot { result ≡ slice_index_or slots.now at None }
-{
-    slots[at]
-}
-
-pub(crate) fn put_row<P: Copy>(slots: &mut [Option<Row<P>>], at: usize, row: Row<P>)
+// The row takes the slot. The slots and their count change in one call, since a book of them is whole
+// before and after it and not in between.
+pub(crate) fn put_row<P: Copy>(
+    slots: &mut [Option<Row<P>>],
+    used: &mut usize,
+    at: usize,
+    row: Row<P>,
+)
     requires within { at < length slots.old }
+    requires roomy { used.old < length slots.old }
     ensures put { slots.new ≡ slice_set slots.old at (Some row) }
+    ensures counted { used.new ≡ used.old + 1 }
 {
     slots[at] = Some(row);
+    *used += 1;
 }
 
-// Totals above their limit are written as the limit.
+// The row in the slot gets these totals; those above their limit are written as the limit.
 pub(crate) fn put_totals<P: Copy>(slots: &mut [Option<Row<P>>], at: usize, first: u64, second: u64)
     requires within { at < length slots.old }
     ensures put { (r : Row P) → slice_index_or slots.old at None ≡ Some r → slots.new ≡ slice_set slots.old at (Some (with_totals r first second)) }
 {
-    let slot = slots[at];
-    let Some(row) = slot else {
-        return;
-    };
-    slots[at] = Some(row.with_totals(first, second));
+    slots[at] = slots[at].map(|row| row.with_totals(first, second));
 }
 
 pub(crate) fn clear<P: Copy>(slots: &mut [Option<Row<P>>])
     ensures free { (p : ℕ) → slice_index_or slots.new p None ≡ None }
+    ensures same_length { length slots.new ≡ length slots.old }
 {
-    for at in 0..slots.len() {
-        slots[at] = None;
-    }
+    slots.fill(None);
 }

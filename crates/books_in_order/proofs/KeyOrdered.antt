@@ -143,25 +143,22 @@ take_set_within (suc n) zero (y ∷ xs) x = refl
 take_set_within (suc n) (suc i) (y ∷ xs) x = ap (λ l. y ∷ l) (take_set_within n i xs x)
 
 -- The row of the key got other totals.
-module _ {P : Type 0} {order : P → P → Ordering} (lawful : TotalOrder order) (k : P) (slots slots' : List (Row P)) (n i f s : ℕ) (sound : KeyedSound order slots n) (sought : Sought order k (take n slots) (Ok i)) (put : (d : Row P) → slots' ≡ set slots i (with_totals (get_or slots i d) f s)) where
-  d : Row P
-  d = a_row slots (omega (arith, place_within lawful k slots n i sound sought))
-
+module _ {P : Type 0} {order : P → P → Ordering} (lawful : TotalOrder order) (k : P) (slots : List (Row P)) (n i f s : ℕ) (sound : KeyedSound order slots n) (sought : Sought order k (take n slots) (Ok i)) (d w : Row P) (put : w ≡ with_totals (get_or slots i d) f s) where
   old : Row P
   old = get_or (take n slots) i d
 
   new : Row P
   new = with_totals old f s
 
-  rows_set : take n slots' ≡ set (take n slots) i new
+  rows_set : take n (set slots i w) ≡ set (take n slots) i new
   unfolding old new
   rows_set =
-      ap (take n) (put d)
+      ap (λ r. take n (set slots i r)) put
       ∙ take_set_within n i slots (with_totals (get_or slots i d) f s)
       ∙ ap (λ r. set (take n slots) i (with_totals r f s)) (sym (get_or-take n slots i d (place_in_use lawful k slots n i sound sought)))
 
-  capacity_same : keyed_capacity slots' ≡ keyed_capacity slots
-  capacity_same = ap (λ m. min m most_members) (ap length (put d) ∙ length-set slots i _)
+  capacity_same : keyed_capacity (set slots i w) ≡ keyed_capacity slots
+  capacity_same = ap (λ m. min m most_members) (length-set slots i w)
 
   keys_kept : (j : ℕ) (e : Row P) → j < length (take n slots) → (get_or (set (take n slots) i new) j e).key ≡ (get_or (take n slots) j e).key
   unfolding old new
@@ -180,13 +177,13 @@ module _ {P : Type 0} {order : P → P → Ordering} (lawful : TotalOrder order)
       let same = length-set (take n slots) i new in
       (λ t. order (keys_kept j e (omega arith) t) (keys_kept m e (omega arith) t)) ∙ from_rises order _ sound.rising j m e (less, omega arith)
 
-  pub written_ledger : keyed_ledger slots' n ≡ written_in (matches order k) f s (keyed_ledger slots n)
+  pub written_ledger : keyed_ledger (set slots i w) n ≡ written_in (matches order k) f s (keyed_ledger slots n)
   unfolding old new
   written_ledger =
       let members = ap (ordered Some n) rows_set ∙ found_changed Some lawful n (take n slots) sound.each sound.alone k i d old sought.0 refl (sought.1 d) (λ _. f) (λ _. s) new new refl refl refl refl refl in
       λ t. record { capacity = capacity_same t; members = members t }
 
-  pub written_sound : KeyedSound order slots' n
+  pub written_sound : KeyedSound order (set slots i w) n
   unfolding old new
   written_sound = record {
     within = omega (arith, sound.within, capacity_same);

@@ -1,6 +1,4 @@
-pub mod Halving
 pub mod KeyOrdered
 pub mod Moves
 pub mod Places
 pub mod Rises
-pub mod SameBook

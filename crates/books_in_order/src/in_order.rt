@@ -1,43 +1,39 @@
 // A book whose rows lie in key order, for every kind of key.
-ghost use Rattle.std.specs.Prelude.{◌≡◌, ◌+◌, ◌<◌, true, false, length, is_some, is_ok, IfOk, Some, Err, nat_le};
+ghost use Rattle.std.specs.Prelude.{◌≡◌, ◌+◌, ◌<◌, length, take, IfOk, Some, Err, nat_le};
 ghost use Rattle.std.specs.Option.{option_map};
-ghost use Rattle.books.specs.Ledger.{matches, present, running_number, totals as totals_in};
-ghost use Rattle.books.specs.Faults.{forgotten, add_verdict, add_answer, add_after, write_verdict, write_after};
-ghost use Rattle.books_in_order.specs.InOrder.{rows_in_use, keyed_capacity, in_order_ledger, InOrderSound};
+ghost use Rattle.books.specs.Ledger.{matches, running_number, totals as totals_in, empty_ledger};
+ghost use Rattle.books.specs.Faults.{forgotten, add_verdict};
+ghost use Rattle.books_in_order.specs.InOrder.{keyed_capacity, keyed_ledger, KeyedSound, KeyedSound-prop};
 ghost use Rattle.books_in_order.specs.KeyOrder.{Sought};
-ghost use Rattle.books.specs.Rows.{Once};
 
-use crate::key_order::{insert, row_at, seek, set_totals};
-use books::{BookFault, Key, Row};
-use figures::MAX_MEMBERS;
+use crate::key_order::insert;
+use books::{Book, BookFault, Key, Row};
+use figures::{Account, Device, MAX_MEMBERS};
+
+pub type AccountsInOrder<'a> = BookInOrder<'a, Account>;
+
+pub type DevicesInOrder<'a> = BookInOrder<'a, Device>;
 
 #[derive(Drop)]
-pub struct InOrder<'a, P> {
-    rows: &'a mut [Row<P>],
+pub struct BookInOrder<'a, K: Key> {
+    rows: &'a mut [Row<K::Plain>],
     used: usize,
+    ghost sound: { KeyedSound K.Key.order rows.now used } by { KeyedSound-prop K.Key.order rows.now used },
 }
 
-impl<'a, P: Copy> InOrder<'a, P> {
-    // No row is in use, whatever the slots hold.
-    pub(crate) fn new(rows: &'a mut [Row<P>]) -> InOrder<'a, P>
-        ensures none_used { result.used ≡ 0 }
-        ensures slots { result.rows.now ≡ rows.old }
+impl<'a, K: Key> BookInOrder<'a, K> {
+    // An empty book, whatever the slots hold.
+    pub fn new(rows: &'a mut [Row<K::Plain>]) -> BookInOrder<'a, K>
+        ensures empty { keyed_ledger result.rows.now result.used ≡ empty_ledger (length rows.old) }
     {
-        InOrder { rows, used: 0 }
+        BookInOrder { rows, used: 0 }
     }
 
-    pub(crate) fn count(&self) -> usize
-        requires each { Once Some self.now.used (rows_in_use self.now) }
-        ensures count { result ≡ length (in_order_ledger self.now).members }
-        ensures used { result ≡ self.now.used }
+    // The rows in use, in key order.
+    fn rows_in_use(&self) -> &[Row<K::Plain>]
+        ensures in_use { result.now ≡ take self.now.used self.now.rows.now }
     {
-        self.used
-    }
-
-    pub(crate) fn capacity(&self) -> usize
-        ensures capacity { result ≡ keyed_capacity self.now.rows.now }
-    {
-        self.rows.len().min(MAX_MEMBERS)
+        &self.rows[..self.used]
     }
 
     fn is_full(&self) -> bool
@@ -55,103 +51,77 @@ impl<'a, P: Copy> InOrder<'a, P> {
     }
 
     // The row of the key, or the place where it belongs.
-    fn seek_key<K: Key<Plain = P>>(&self, key: K) -> Result<usize, usize>
-        requires sound { InOrderSound K.Key.order self.now }
-        ensures sought { Sought K.Key.order (K.Key.plain key) (rows_in_use self.now) result }
+    fn seek_key(&self, key: K) -> Result<usize, usize>
+        ensures sought { Sought K.Key.order (K.Key.plain key) (take self.now.used self.now.rows.now) result }
     {
-        let used = self.used;
-        seek::<K>(self.rows, used, key.to_plain())
+        self.rows_in_use()
+            .binary_search_by_key(&key.to_plain(), |row| row.key)
     }
 
     // The row of the key.
-    fn find<K: Key<Plain = P>>(&self, key: K) -> Option<Row<P>>
-        requires sound { InOrderSound K.Key.order self.now }
-        ensures number { option_map (λ row. row.number) result ≡ running_number (matches K.Key.order (K.Key.plain key)) (in_order_ledger self.now).members }
-        ensures totals { option_map (λ row. (row.first, row.second)) result ≡ totals_in (matches K.Key.order (K.Key.plain key)) (in_order_ledger self.now).members }
+    fn find(&self, key: K) -> Option<Row<K::Plain>>
+        ensures number { option_map (λ row. row.number) result ≡ running_number (matches K.Key.order (K.Key.plain key)) (keyed_ledger self.now.rows.now self.now.used).members }
+        ensures totals { option_map (λ row. (row.first, row.second)) result ≡ totals_in (matches K.Key.order (K.Key.plain key)) (keyed_ledger self.now.rows.now self.now.used).members }
     {
-        match self.seek_key(key) {
-            Ok(at) => Some(row_at(self.rows, at)),
-            Err(_) => None,
-        }
-    }
-
-    pub(crate) fn running_number<K: Key<Plain = P>>(&self, key: K) -> Option<u64>
-        requires sound { InOrderSound K.Key.order self.now }
-        ensures number { result ≡ running_number (matches K.Key.order (K.Key.plain key)) (in_order_ledger self.now).members }
-    {
-        match self.find(key) {
-            Some(row) => Some(row.number),
-            None => None,
-        }
-    }
-
-    pub(crate) fn totals<K: Key<Plain = P>>(&self, key: K) -> Option<(u64, u64)>
-        requires sound { InOrderSound K.Key.order self.now }
-        ensures totals { result ≡ totals_in (matches K.Key.order (K.Key.plain key)) (in_order_ledger self.now).members }
-    {
-        match self.find(key) {
-            Some(row) => Some((row.first, row.second)),
-            None => None,
-        }
+        let Ok(at) = self.seek_key(key) else {
+            return None;
+        };
+        Some(self.rows[at])
     }
 
     // The place of a key that may join.
-    fn vacancy<K: Key<Plain = P>>(&self, key: K) -> Result<usize, BookFault>
-        requires sound { InOrderSound K.Key.order self.now }
-        ensures verdict { forgotten result ≡ add_verdict K.Key.named (matches K.Key.order (K.Key.plain key)) (in_order_ledger self.now) }
-        ensures place { IfOk result (λ p. (self.now.used < keyed_capacity self.now.rows.now) × Sought K.Key.order (K.Key.plain key) (rows_in_use self.now) (Err p)) }
+    fn vacancy(&self, key: K) -> Result<usize, BookFault>
+        ensures verdict { forgotten result ≡ add_verdict K.Key.BOOK (matches K.Key.order (K.Key.plain key)) (keyed_ledger self.now.rows.now self.now.used) }
+        ensures place { IfOk result (λ p. (self.now.used < keyed_capacity self.now.rows.now) × Sought K.Key.order (K.Key.plain key) (take self.now.used self.now.rows.now) (Err p)) }
     {
         let Err(place) = self.seek_key(key) else {
-            return Err(BookFault::Present { book: K::book() });
+            return Err(BookFault::Present { book: K::BOOK });
         };
         if self.is_full() {
-            return Err(BookFault::Full { book: K::book() });
+            return Err(BookFault::Full { book: K::BOOK });
         }
         Ok(place)
     }
+}
 
-    pub(crate) fn vet_add<K: Key<Plain = P>>(&self, key: K) -> Result<(), BookFault>
-        requires sound { InOrderSound K.Key.order self.now }
-        ensures verdict { result ≡ add_verdict K.Key.named (matches K.Key.order (K.Key.plain key)) (in_order_ledger self.now) }
-    {
-        match self.vacancy(key) {
-            Ok(_) => Ok(()),
-            Err(fault) => Err(fault),
-        }
-    }
+impl<K: Key> Book<K> for BookInOrder<'_, K> {
+    ghost meaning = { λ b. keyed_ledger b.rows.now b.used };
 
-    pub(crate) fn add<K: Key<Plain = P>>(&mut self, key: K) -> Result<u64, BookFault>
-        requires sound { InOrderSound K.Key.order self.old }
-        ensures answer { result ≡ add_answer K.Key.named (matches K.Key.order (K.Key.plain key)) (in_order_ledger self.old) }
-        ensures after { in_order_ledger self.new ≡ add_after (matches K.Key.order (K.Key.plain key)) (K.Key.plain key) (in_order_ledger self.old) }
-        ensures refusal_leaves_all { is_ok result ≡ false → self.new ≡ self.old }
-        ensures sound { InOrderSound K.Key.order self.new }
-    {
+    ghost alone = { λ b. b.sound.alone };
+
+    fn add(&mut self, key: K) -> Result<u64, BookFault> {
         let place = self.vacancy(key)?;
         let number = self.next_number();
         let row = Row::joining(key.to_plain(), number);
-        let used = self.used;
-        insert(self.rows, used, place, row);
-        self.used = used + 1;
+        insert(self.rows, &mut self.used, place, row);
         Ok(number)
     }
 
-    pub(crate) fn write_totals<K: Key<Plain = P>>(
-        &mut self,
-        key: K,
-        first: u64,
-        second: u64,
-    ) -> Result<(), BookFault>
-        requires sound { InOrderSound K.Key.order self.old }
-        ensures answer { result ≡ write_verdict K.Key.named (matches K.Key.order (K.Key.plain key)) (in_order_ledger self.old) }
-        ensures after { in_order_ledger self.new ≡ write_after (matches K.Key.order (K.Key.plain key)) first second (in_order_ledger self.old) }
-        ensures refusal_leaves_all { is_ok result ≡ false → self.new ≡ self.old }
-        ensures sound { InOrderSound K.Key.order self.new }
-    {
+    fn vet_add(&self, key: K) -> Result<(), BookFault> {
+        self.vacancy(key).map(|_| ())
+    }
+
+    fn write_totals(&mut self, key: K, first: u64, second: u64) -> Result<(), BookFault> {
         let Ok(at) = self.seek_key(key) else {
-            return Err(BookFault::Absent { book: K::book() });
+            return Err(BookFault::Absent { book: K::BOOK });
         };
-        set_totals(self.rows, at, first, second);
+        self.rows[at] = self.rows[at].with_totals(first, second);
         Ok(())
+    }
+
+    fn running_number(&self, key: K) -> Option<u64> {
+        self.find(key).map(|row| row.number)
+    }
+
+    fn totals(&self, key: K) -> Option<(u64, u64)> {
+        self.find(key).map(|row| (row.first, row.second))
+    }
+
+    fn count(&self) -> usize {
+        self.used
+    }
+
+    fn capacity(&self) -> usize {
+        self.rows.len().min(MAX_MEMBERS)
     }
 }

@@ -1,9 +1,0 @@
-use Rattle.books_hashed.proofs.SameBook.{same_devices_hashed}
-use Rattle.books_hashed.proofs.devices_hashed.DevicesHashedBookDevice.write_totals.Goals as goal
-
-pub returns : goal.returns
-returns c = record {
-  answer = c.write_totals.ensures.answer;
-  after = c.write_totals.ensures.after;
-  refusal_leaves_all = λ h. same_devices_hashed _ _ (c.write_totals.ensures.refusal_leaves_all h);
-}
