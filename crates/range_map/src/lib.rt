@@ -1,14 +1,15 @@
 // One range map for every kind of payload, over slots that the caller lends.
-// Its meaning is a rising list of entries, no two sharing a position; every call is defined for any slots and any count in use.
+// Its meaning is a rising list of entries, no two sharing a position.
 #![tactic(auto)]
 
-mod edit;
 mod entry;
 mod fault;
 mod find;
 mod judge;
+mod lent;
 mod map;
+mod operations;
 
-pub use entry::{Entry, Payload};
+pub use entry::{Entry, Payload, Span};
 pub use fault::{MapFault, Returned};
 pub use map::RangeMap;
