@@ -41,7 +41,7 @@ module _ (o : Declare) (d : Declaration) (i : Issue) (day : DayFigures) (last : 
       (none : None ≡ first_fault (declaration_checks o before))
       (operands : plain_declaration d ≡ o)
       (issue : i ≡ issue_of o before)
-      (periods : map_of tables'.periods ≡ lay_into (entry i.period_first i.period_last (period_of (plain_declaration d))) (map_of tables.periods))
+      (periods : map_of tables'.periods ≡ lay_into (entry i.period.first i.period.last (period_of (plain_declaration d))) (map_of tables.periods))
       (origins : map_of tables'.origins ≡ cond (issuing i) (lay_into (entry i.first.0 i.last.0 (origin_of (plain_declaration d))) (map_of tables.origins)) (map_of tables.origins))
       (standings : map_of tables'.standings ≡ cond (issuing i) (lay_into (entry i.first.0 i.last.0 (Held d.account)) (map_of tables.standings)) (map_of tables.standings))
       (offers : tables'.offers.now ≡ tables.offers.now)
@@ -62,7 +62,7 @@ module _ (o : Declare) (d : Declaration) (i : Issue) (day : DayFigures) (last : 
 
       booked : state_of true (record { date = day.date; last_number = last; offers = day.offers; cancellations = day.cancellations }) accounts' devices' tables' ≡ declaration o before
       booked =
-          let periods_after = periods ∙ (λ k. lay_into (entry (issue k).period_first (issue k).period_last (period_of (operands k))) (map_of tables.periods)) in
+          let periods_after = periods ∙ (λ k. lay_into (entry (issue k).period.first (issue k).period.last (period_of (operands k))) (map_of tables.periods)) in
           let origins_after = origins ∙ (λ k. cond (issuing (issue k)) (lay_into (entry (issue k).first.0 (issue k).last.0 (origin_of (operands k))) (map_of tables.origins)) (map_of tables.origins)) in
           let standings_after = standings ∙ (λ k. cond (issuing (issue k)) (lay_into (entry (issue k).first.0 (issue k).last.0 (Held (account_from (operands k).account))) (map_of tables.standings)) (map_of tables.standings)) in
           let accounts_after = credited ∙ (λ k. cond (ltb 0 (issue k).count.0) (posted (is_account (account_from (operands k).account)) (Up (issue k).count.0) (Up 0) accounts) accounts) in

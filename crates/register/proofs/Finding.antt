@@ -43,8 +43,8 @@ needed true t x none = none
 needed false t x none = let z : ◌≡◌ {A = ℕ} 0 1 = cc in absurd (omega arith)
 
 module _ (i : Issue) (tables : Tables)
-    (rises : i.period_first ≤ i.period_last)
-    (within : i.period_last < 2 ^ 62)
+    (rises : i.period.first ≤ i.period.last)
+    (within : i.period.last < 2 ^ 62)
     (as_many : i.first.0 + i.count.0 ≡ i.last.0 + 1)
     (free : Pass (free_checks i (map_of tables.periods) (map_of tables.origins) (map_of tables.standings)))
     (slots : Pass (slot_checks i (map_of tables.periods) (map_of tables.origins) (map_of tables.standings)))
@@ -73,5 +73,5 @@ module _ (i : Issue) (tables : Tables) where
   abbrev pub checks_of_slots : List (Option Fault)
   checks_of_slots = slot_checks i (map_of tables.periods) (map_of tables.origins) (map_of tables.standings)
 
-  pub finds : i.period_first ≤ i.period_last → i.period_last < 2 ^ 62 → i.first.0 + i.count.0 ≡ i.last.0 + 1 → None ≡ first_fault checks_of_free → None ≡ first_fault checks_of_slots → Finds i tables
+  pub finds : i.period.first ≤ i.period.last → i.period.last < 2 ^ 62 → i.first.0 + i.count.0 ≡ i.last.0 + 1 → None ≡ first_fault checks_of_free → None ≡ first_fault checks_of_slots → Finds i tables
   finds rises within as_many free slots = all_found i tables rises within as_many (all_pass checks_of_free free) (all_pass checks_of_slots slots)

@@ -26,8 +26,7 @@ issue_of o s = record {
   issued = min ((device_totals o.device s).1 + wanted o s) most_total;
   first = record { 0 = first_issued s };
   last = record { 0 = last_issued o s };
-  period_first = period_at o.device s o.first_day;
-  period_last = period_at o.device s o.last_day;
+  period = record { first = period_at o.device s o.first_day; last = period_at o.device s o.last_day };
 }
 
 -- what a declaration leaves in the tables
@@ -64,7 +63,7 @@ issuing i = nat_lt 0 i.count.0
 -- the period and the numbers meet no entry, and the numbers stay within their limit
 abbrev pub free_checks : Issue → MapOf Period → MapOf Origin → MapOf Standing → List (Option Fault)
 free_checks i periods origins standings =
-    meets i.period_first i.period_last periods
+    meets i.period.first i.period.last periods
     ∷ if_needed (issuing i) (meets i.first.0 i.last.0 origins)
     ∷ if_needed (issuing i) (meets i.first.0 i.last.0 standings)
     ∷ unless (nat_le i.last.0 last_certificate_number) (NumbersExhausted i.count.0)
@@ -80,7 +79,7 @@ slot_checks i periods origins standings =
 -- what the booking relies on: each entry finds its place
 pub record Finds (i : Issue) (tables : Tables) : Type 0 where
   pub few : i.last.0 ≤ last_certificate_number
-  pub period : lay_answer Periods (slots_of tables.periods) i.period_first i.period_last (in_use tables.periods) ≡ Ok tt
+  pub period : lay_answer Periods (slots_of tables.periods) i.period.first i.period.last (in_use tables.periods) ≡ Ok tt
   pub origin : issuing i ≡ true → lay_answer Origins (slots_of tables.origins) i.first.0 i.last.0 (in_use tables.origins) ≡ Ok tt
   pub standing : issuing i ≡ true → lay_answer Standings (slots_of tables.standings) i.first.0 i.last.0 (in_use tables.standings) ≡ Ok tt
 

@@ -9,7 +9,7 @@ ghost use Rattle.register.specs.declared.rows.Standing.TheVariants.{Cancelled};
 use crate::checks::check_member;
 use crate::day::{DayFigures, OpenDay};
 use crate::faults::Fault;
-use crate::numbers::check_numbers;
+use crate::numbers::{check_numbers, count_of, span_of};
 use crate::registers::Register;
 use crate::rows::{Cancellation, Standing};
 use crate::tables::Tables;
@@ -54,7 +54,7 @@ impl OpenDay {
         let terms = self.judge_cancellation(register, order)?;
         let serial = self.figures.cancellations + 1;
         use_up(&mut register.tables, self.figures, serial, terms);
-        let count = terms.numbers.last.0 - terms.numbers.first.0 + 1;
+        let count = count_of(terms.numbers);
         post(
             &mut register.accounts,
             Posting {
@@ -86,9 +86,7 @@ fn use_up(tables: &mut Tables<'_>, day: DayFigures, serial: u32, terms: Cancella
         date: day.date,
         beneficiary,
     };
-    let first = terms.numbers.first.0;
-    let last = terms.numbers.last.0;
     let _ = tables
         .standings
-        .change(first, last, Standing::Cancelled(serial));
+        .change(span_of(terms.numbers), Standing::Cancelled(serial));
 }

@@ -85,28 +85,24 @@ impl OpenDay {
 // The period in its table; and if certificates result, where they come from and that the account holds them.
 fn lay_down(tables: &mut Tables<'_>, declaration: Declaration, issue: Issue)
     requires places { Finds issue tables.old }
-    ensures periods { map_of tables.new.periods ≡ lay_into (entry issue.period_first issue.period_last (period_of (plain_declaration declaration))) (map_of tables.old.periods) }
+    ensures periods { map_of tables.new.periods ≡ lay_into (entry issue.period.first issue.period.last (period_of (plain_declaration declaration))) (map_of tables.old.periods) }
     ensures origins { map_of tables.new.origins ≡ (if issuing issue then lay_into (entry issue.first.0 issue.last.0 (origin_of (plain_declaration declaration))) (map_of tables.old.origins) else map_of tables.old.origins) }
     ensures standings { map_of tables.new.standings ≡ (if issuing issue then lay_into (entry issue.first.0 issue.last.0 (Held declaration.account)) (map_of tables.old.standings) else map_of tables.old.standings) }
     ensures offers { tables.new.offers.now ≡ tables.old.offers.now }
     ensures cancellations { tables.new.cancellations.now ≡ tables.old.cancellations.now }
 {
     let energy = declaration.energy;
-    let _ = tables
-        .periods
-        .lay(issue.period_first, issue.period_last, Period { energy });
+    let _ = tables.periods.lay(issue.period, Period { energy });
     if issue.is_issuing() {
         let origin = Origin {
             device: declaration.device.digits(),
             first_day: declaration.days.first,
             last_day: declaration.days.last,
         };
-        let first = issue.first.0;
-        let last = issue.last.0;
-        let _ = tables.origins.lay(first, last, origin);
+        let _ = tables.origins.lay(issue.numbers(), origin);
         let _ = tables
             .standings
-            .lay(first, last, Standing::Held(declaration.account));
+            .lay(issue.numbers(), Standing::Held(declaration.account));
     }
 }
 

@@ -8,13 +8,13 @@ ghost use Rattle.register.specs.Holdings.{gap_by, held_by, unheld};
 use crate::faults::Fault;
 use crate::rows::Standing;
 use figures::Account;
-use range_map::{Entry, RangeMap};
+use range_map::{Entry, RangeMap, Span};
 
 // The first of the numbers that the account does not hold, along entries where a walk begins.
-fn first_unheld(entries: &[Entry<Standing>], account: Account, first: u64, last: u64) -> Option<u64>
-    ensures unheld { result ≡ gap_by (held_by account) first last entries.now }
+fn first_unheld(entries: &[Entry<Standing>], account: Account, range: Span) -> Option<u64>
+    ensures unheld { result ≡ gap_by (held_by account) range.first range.last entries.now }
 {
-    let mut number = first;
+    let mut number = range.first;
     for entry in entries {
         if entry.last < number {
             continue;
@@ -22,7 +22,7 @@ fn first_unheld(entries: &[Entry<Standing>], account: Account, first: u64, last:
         if number < entry.first || !entry.payload.is_held_by(account) {
             return Some(number);
         }
-        if entry.last >= last {
+        if entry.last >= range.last {
             return None;
         }
         number = entry.last + 1;
@@ -35,12 +35,11 @@ fn first_unheld(entries: &[Entry<Standing>], account: Account, first: u64, last:
 pub(crate) fn check_held(
     standings: &RangeMap<'_, Standing>,
     account: Account,
-    first: u64,
-    last: u64,
+    range: Span,
 ) -> Result<(), Fault>
-    ensures verdict { fault_in result ≡ not_held_at (unheld account first last (in_use standings.now)) }
+    ensures verdict { fault_in result ≡ not_held_at (unheld account range.first range.last (in_use standings.now)) }
 {
-    match first_unheld(standings.entries_from(first), account, first, last) {
+    match first_unheld(standings.entries_from(range.first), account, range) {
         Some(number) => Err(Fault::NotHeld { number }),
         None => Ok(()),
     }

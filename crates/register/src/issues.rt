@@ -10,6 +10,7 @@ use figures::{
     WattHours,
 };
 use order_file::Declaration;
+use range_map::Span;
 
 // Each device has a stretch of so many positions in the table of periods, one for each day.
 const DAYS_OF_DEVICE: u64 = 32_768;
@@ -22,8 +23,7 @@ pub struct Issue {
     pub issued: u64,
     pub first: CertificateNumber,
     pub last: CertificateNumber,
-    pub period_first: u64,
-    pub period_last: u64,
+    pub period: Span,
 }
 
 impl Issue {
@@ -36,8 +36,8 @@ impl Issue {
     ) -> Issue
         requires energy { declaration.energy.0 ≤ most_energy }
         ensures issue { result ≡ issue_of (plain_declaration declaration) (on_devices issued.0 (DeviceBook.Book.meaning devices.now)) }
-        ensures period_rises { result.period_first ≤ result.period_last }
-        ensures period_within { result.period_last < 2 ^ 62 }
+        ensures period_rises { result.period.first ≤ result.period.last }
+        ensures period_within { result.period.last < 2 ^ 62 }
         ensures as_many_numbers { result.first.0 + result.count.0 ≡ result.last.0 + 1 }
     {
         let (remainder, certificates) = devices.totals(declaration.device).unwrap_or((0, 0));
@@ -52,8 +52,21 @@ impl Issue {
             issued: certificates.saturating_add(count.0).min(MAX_TOTAL),
             first: CertificateNumber(before + 1),
             last: CertificateNumber(before + count.0),
-            period_first: stretch + declaration.days.first as u64,
-            period_last: stretch + declaration.days.last as u64,
+            period: Span {
+                first: stretch + u64::from(declaration.days.first),
+                last: stretch + u64::from(declaration.days.last),
+            },
+        }
+    }
+
+    // The positions of the numbers.
+    pub(crate) fn numbers(self) -> Span
+        ensures first { result.first ≡ self.first.0 }
+        ensures last { result.last ≡ self.last.0 }
+    {
+        Span {
+            first: self.first.0,
+            last: self.last.0,
         }
     }
 

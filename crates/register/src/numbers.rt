@@ -1,9 +1,10 @@
 // What offers and cancellations ask of their numbers.
-ghost use Rattle.std.specs.Prelude.{true, [], ◌∷◌, length};
+ghost use Rattle.std.specs.Prelude.{◌≡◌, true, [], ◌∷◌, length};
 ghost use Rattle.range_map.specs.Map.{in_use, slots_of};
 ghost use Rattle.register.specs.Checks.{not_held_at, row_free, slots_for};
 ghost use Rattle.register.specs.Holdings.{unheld};
 ghost use Rattle.register.specs.Settled.{Judged, Fits};
+ghost use Rattle.register.specs.State.{range_size};
 
 use crate::checks::check_row;
 use crate::faults::Fault;
@@ -11,7 +12,25 @@ use crate::holdings::check_held;
 use crate::rows::Standing;
 use figures::{Account, Table};
 use order_file::NumberRange;
-use range_map::RangeMap;
+use range_map::{RangeMap, Span};
+
+// The positions of these numbers.
+pub(crate) fn span_of(numbers: NumberRange) -> Span
+    ensures first { result.first ≡ numbers.first.0 }
+    ensures last { result.last ≡ numbers.last.0 }
+{
+    Span {
+        first: numbers.first.0,
+        last: numbers.last.0,
+    }
+}
+
+// How many they are.
+pub(crate) fn count_of(numbers: NumberRange) -> u64
+    ensures count { result ≡ range_size numbers.first.0 numbers.last.0 }
+{
+    numbers.last.0 - numbers.first.0 + 1
+}
 
 // Every number is held by the account; a slot is free for the record; the cuts find slots.
 pub(crate) fn check_numbers(
@@ -24,10 +43,9 @@ pub(crate) fn check_numbers(
 ) -> Result<(), Fault>
     ensures judged { Judged (not_held_at (unheld account numbers.first.0 numbers.last.0 (in_use standings.now)) ∷ row_free table used slots ∷ slots_for numbers.first.0 numbers.last.0 (slots_of standings.now) (in_use standings.now) ∷ []) (λ _. Fits used slots numbers.first.0 numbers.last.0 standings.now) result }
 {
-    let first = numbers.first.0;
-    let last = numbers.last.0;
-    check_held(standings, account, first, last)?;
+    let range = span_of(numbers);
+    check_held(standings, account, range)?;
     check_row(table, used, slots)?;
-    standings.check_change(first, last)?;
+    standings.check_change(range)?;
     Ok(())
 }

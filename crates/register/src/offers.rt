@@ -10,7 +10,7 @@ ghost use Rattle.register.specs.declared.rows.Standing.TheVariants.{Offered};
 use crate::checks::check_member;
 use crate::day::OpenDay;
 use crate::faults::Fault;
-use crate::numbers::check_numbers;
+use crate::numbers::{check_numbers, count_of, span_of};
 use crate::registers::Register;
 use crate::rows::{Offer, OfferState, Standing};
 use crate::tables::Tables;
@@ -70,7 +70,7 @@ impl OpenDay {
         let terms = self.judge_offer(register, order)?;
         let number = self.figures.offers + 1;
         set_aside(&mut register.tables, self.figures.offers, number, terms);
-        let count = terms.numbers.last.0 - terms.numbers.first.0 + 1;
+        let count = count_of(terms.numbers);
         post(
             &mut register.accounts,
             Posting {
@@ -100,9 +100,7 @@ fn set_aside(tables: &mut Tables<'_>, row: u32, number: u32, terms: OfferTerms)
         last: terms.numbers.last,
         state: OfferState::Open,
     };
-    let first = terms.numbers.first.0;
-    let last = terms.numbers.last.0;
     let _ = tables
         .standings
-        .change(first, last, Standing::Offered(number));
+        .change(span_of(terms.numbers), Standing::Offered(number));
 }

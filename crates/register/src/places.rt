@@ -9,13 +9,13 @@ use crate::faults::Fault;
 use crate::issues::Issue;
 use crate::tables::Tables;
 use figures::MAX_CERTIFICATE_NUMBER;
-use range_map::{MapFault, Payload, RangeMap};
+use range_map::{MapFault, Payload, RangeMap, Span};
 
 // The range meets no entry.
-fn check_free<P: Payload>(map: &RangeMap<'_, P>, first: u64, last: u64) -> Result<(), Fault>
-    ensures verdict { fault_in result ≡ meets first last (map_of map.now) }
+fn check_free<P: Payload>(map: &RangeMap<'_, P>, range: Span) -> Result<(), Fault>
+    ensures verdict { fault_in result ≡ meets range.first range.last (map_of map.now) }
 {
-    match map.taken(first, last) {
+    match map.taken(range) {
         Some(first) => Err(Fault::from(MapFault::Taken { first })),
         None => Ok(()),
     }
@@ -35,10 +35,10 @@ fn check_slot<P: Payload>(map: &RangeMap<'_, P>) -> Result<(), Fault>
 fn check_all_free(tables: &Tables<'_>, issue: Issue) -> Result<(), Fault>
     ensures verdict { fault_in result ≡ first_fault (free_checks issue (map_of tables.now.periods) (map_of tables.now.origins) (map_of tables.now.standings)) }
 {
-    check_free(&tables.periods, issue.period_first, issue.period_last)?;
+    check_free(&tables.periods, issue.period)?;
     if issue.is_issuing() {
-        check_free(&tables.origins, issue.first.0, issue.last.0)?;
-        check_free(&tables.standings, issue.first.0, issue.last.0)?;
+        check_free(&tables.origins, issue.numbers())?;
+        check_free(&tables.standings, issue.numbers())?;
     }
     if issue.last.0 > MAX_CERTIFICATE_NUMBER {
         return Err(Fault::NumbersExhausted {
@@ -61,8 +61,8 @@ fn check_slots(tables: &Tables<'_>, issue: Issue) -> Result<(), Fault>
 
 // Free positions first, then slots; what passes finds its place when it is laid down.
 pub(crate) fn check_places(tables: &Tables<'_>, issue: Issue) -> Result<(), Fault>
-    requires period_rises { issue.period_first ≤ issue.period_last }
-    requires period_within { issue.period_last < 2 ^ 62 }
+    requires period_rises { issue.period.first ≤ issue.period.last }
+    requires period_within { issue.period.last < 2 ^ 62 }
     requires as_many_numbers { issue.first.0 + issue.count.0 ≡ issue.last.0 + 1 }
     ensures judged { Judged (free_checks issue (map_of tables.now.periods) (map_of tables.now.origins) (map_of tables.now.standings) ++ slot_checks issue (map_of tables.now.periods) (map_of tables.now.origins) (map_of tables.now.standings)) (λ _. Finds issue tables.now) result }
 {
