@@ -44,4 +44,7 @@ pub trait Book<K: Key> {
     fn capacity(&self) -> usize
         ensures capacity { result ≡ (meaning self.now).capacity }
         ensures limited { result ≤ most_members };
+
+    // No two members have one key.
+    ghost alone: { (book : Self) → apart K.Key.order (meaning book).members ≡ true };
 }

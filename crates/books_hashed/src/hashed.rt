@@ -1,11 +1,10 @@
 // A book that is a hash table with linear probing, for every kind of key.
-ghost use Rattle.std.specs.Prelude.{◌≡◌, ℕ, ◌+◌, ◌<◌, ◌≤◌, true, length, IfOk, nat_le};
+ghost use Rattle.std.specs.Prelude.{◌≡◌, ℕ, ◌+◌, ◌<◌, length, IfOk, nat_le};
 ghost use Rattle.std.specs.Option.{option_map};
-ghost use Rattle.books.specs.Ledger.{matches, running_number, totals as totals_in, apart, empty_ledger};
+ghost use Rattle.books.specs.Ledger.{matches, running_number, totals as totals_in, empty_ledger};
 ghost use Rattle.books.specs.Faults.{forgotten, add_verdict};
-ghost use Rattle.books_hashed.specs.Hashed.{held, table_capacity, table_ledger};
-ghost use Rattle.books_hashed.specs.Probing.{Settled, probe_for};
-ghost use Rattle.books.specs.Rows.{Once};
+ghost use Rattle.books_hashed.specs.Hashed.{table_capacity, table_ledger, TableSound, TableSound-prop};
+ghost use Rattle.books_hashed.specs.Probing.{probe_for};
 ghost use Rattle.books_hashed.specs.declared.probing.Probe.TheVariants.{Found, Free};
 
 use crate::probing::{Probe, clear, probe_for, put_row, put_totals};
@@ -20,10 +19,7 @@ pub type DevicesHashed<'a> = BookHashed<'a, Device>;
 pub struct BookHashed<'a, K: Key> {
     slots: &'a mut [Option<Row<K::Plain>>],
     used: usize,
-    ghost within: { used ≤ table_capacity slots.now },
-    ghost each: { Once held used slots.now },
-    ghost settled: { Settled K.Key.order K.Key.spread slots.now },
-    ghost alone: { apart K.Key.order (table_ledger slots.now used).members ≡ true },
+    ghost sound: { TableSound K.Key.order K.Key.spread slots.now used } by { TableSound-prop K.Key.order K.Key.spread slots.now used },
 }
 
 impl<'a, K: Key> BookHashed<'a, K> {
@@ -84,6 +80,8 @@ impl<'a, K: Key> BookHashed<'a, K> {
 
 impl<K: Key> Book<K> for BookHashed<'_, K> {
     ghost meaning = { λ b. table_ledger b.slots.now b.used };
+
+    ghost alone = { λ b. b.sound.alone };
 
     fn add(&mut self, key: K) -> Result<u64, BookFault> {
         let at = self.vacancy(key)?;

@@ -2,7 +2,7 @@
 ghost use Rattle.std.specs.Prelude.{◌≡◌, ℕ, ◌+◌, ◌<◌, length, Some, None, slice_index_or, slice_set};
 ghost use Rattle.std.specs.Option.{option_map};
 ghost use Rattle.books.specs.Ledger.{matches};
-ghost use Rattle.books_hashed.specs.Probing.{glanced, next_slot, probe_for};
+ghost use Rattle.books_hashed.specs.Probing.{glanced, probe_for};
 ghost use Rattle.books.specs.Rows.{with_totals};
 ghost use Rattle.books.specs.declared.rows.Row.{Row};
 
@@ -27,14 +27,7 @@ fn glance<K: Key>(slot: Option<Row<K::Plain>>, key: K::Plain, at: usize) -> Opti
     }
 }
 
-fn next_slot(slots: usize, at: usize) -> usize
-    requires within { at < slots }
-    ensures next { result ≡ next_slot slots at }
-    ensures stays_within { result < slots }
-{
-    if at + 1 < slots { at + 1 } else { 0 }
-}
-
+// From the key's home slot on, round the end of the table.
 pub(crate) fn probe_for<K: Key>(slots: &[Option<Row<K::Plain>>], key: K::Plain) -> Probe
     ensures ends { result ≡ probe_for K.Key.order K.Key.spread key slots.now }
 {
@@ -42,13 +35,11 @@ pub(crate) fn probe_for<K: Key>(slots: &[Option<Row<K::Plain>>], key: K::Plain) 
     if count == 0 {
         return Probe::Full;
     }
-    let mut at = (K::hashed(key) % count as u64) as usize;
-    for _step in 0..count {
-        let slot = slots[at];
-        if let Some(end) = glance::<K>(slot, key, at) {
+    let home = (K::hashed(key) % count as u64) as usize;
+    for at in (home..count).chain(0..home) {
+        if let Some(end) = glance::<K>(slots[at], key, at) {
             return end;
         }
-        at = next_slot(count, at);
     }
     Probe::Full
 }

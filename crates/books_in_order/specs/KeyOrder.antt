@@ -1,5 +1,5 @@
 -- Rows in key order, and what looking for a key among them answers. Assumes nothing.
-use Rattle.std.specs.Prelude.{◌≡◌, ℕ, ◌<◌, ◌≤◌, Bool, true, ◌&&◌, List, [], ◌∷◌, length, Ok, Err, Result, ◌≢◌, slice_index_or}
+use Rattle.std.specs.Prelude.{◌≡◌, ℕ, ◌<◌, ◌≤◌, Bool, true, ◌&&◌, List, [], ◌∷◌, length, Ok, Err, Result, slice_index_or}
 use Rattle.std.specs.declared.cmp.Ordering.TheVariants.{Less}
 use Rattle.std.specs.declared.cmp.Ordering.{Ordering}
 use Rattle.std.specs.Ordering.{is_lt}
@@ -14,12 +14,6 @@ below order k (r ∷ rs) = is_lt (order k r.key) && below order k rs
 abbrev pub rises : {P : Type 0} → (P → P → Ordering) → List (Row P) → Bool
 rises order [] = true
 rises order (r ∷ rs) = below order r.key rs && rises order rs
-
--- The first p rows are below the key, and no other is.
-pub record Splits {P : Type 0} (order : P → P → Ordering) (k : P) (rows : List (Row P)) (p : ℕ) : Type 0 where
-  pub within : p ≤ length rows
-  pub below : (i : ℕ) (d : Row P) → i < p → order (slice_index_or rows i d).key k ≡ Less
-  pub above : (i : ℕ) (d : Row P) → p ≤ i → i < length rows → order (slice_index_or rows i d).key k ≢ Less
 
 -- The row at i has the key; or none has it, and it belongs at place p.
 abbrev pub Sought : {P : Type 0} → (P → P → Ordering) → P → List (Row P) → Result ℕ ℕ → Type 0

@@ -1,11 +1,10 @@
 // A book whose rows lie in key order, for every kind of key.
-ghost use Rattle.std.specs.Prelude.{◌≡◌, ◌+◌, ◌<◌, ◌≤◌, true, length, take, IfOk, Some, Err, nat_le};
+ghost use Rattle.std.specs.Prelude.{◌≡◌, ◌+◌, ◌<◌, length, take, IfOk, Some, Err, nat_le};
 ghost use Rattle.std.specs.Option.{option_map};
-ghost use Rattle.books.specs.Ledger.{matches, running_number, totals as totals_in, apart, empty_ledger};
+ghost use Rattle.books.specs.Ledger.{matches, running_number, totals as totals_in, empty_ledger};
 ghost use Rattle.books.specs.Faults.{forgotten, add_verdict};
-ghost use Rattle.books_in_order.specs.InOrder.{keyed_capacity, keyed_ledger};
-ghost use Rattle.books_in_order.specs.KeyOrder.{rises, Sought};
-ghost use Rattle.books.specs.Rows.{Once};
+ghost use Rattle.books_in_order.specs.InOrder.{keyed_capacity, keyed_ledger, KeyedSound, KeyedSound-prop};
+ghost use Rattle.books_in_order.specs.KeyOrder.{Sought};
 
 use crate::key_order::insert;
 use books::{Book, BookFault, Key, Row};
@@ -19,10 +18,7 @@ pub type DevicesInOrder<'a> = BookInOrder<'a, Device>;
 pub struct BookInOrder<'a, K: Key> {
     rows: &'a mut [Row<K::Plain>],
     used: usize,
-    ghost within: { used ≤ keyed_capacity rows.now },
-    ghost each: { Once Some used (take used rows.now) },
-    ghost rising: { rises K.Key.order (take used rows.now) ≡ true },
-    ghost alone: { apart K.Key.order (keyed_ledger rows.now used).members ≡ true },
+    ghost sound: { KeyedSound K.Key.order rows.now used } by { KeyedSound-prop K.Key.order rows.now used },
 }
 
 impl<'a, K: Key> BookInOrder<'a, K> {
@@ -90,6 +86,8 @@ impl<'a, K: Key> BookInOrder<'a, K> {
 
 impl<K: Key> Book<K> for BookInOrder<'_, K> {
     ghost meaning = { λ b. keyed_ledger b.rows.now b.used };
+
+    ghost alone = { λ b. b.sound.alone };
 
     fn add(&mut self, key: K) -> Result<u64, BookFault> {
         let place = self.vacancy(key)?;

@@ -2,14 +2,14 @@ use Rattle.std.proofs.Common.{◌≡◌, get_or, None, sym, refl, ◌∙◌}
 use Rattle.std.proofs.lemmas.List.{get_or_default}
 use Rattle.books.specs.Ledger.{matches}
 use Rattle.books.proofs.Found.{number_none, totals_none}
-use Rattle.books_hashed.specs.Hashed.{table_ledger, TableSound}
+use Rattle.books_hashed.specs.Hashed.{table_ledger}
 use Rattle.books_hashed.proofs.HashTables.{probe_absent, slot_number, slot_totals}
 use Rattle.books_hashed.proofs.hashed.BookHashed.find.Goals as goal
 
 pub returns-in-Found : goal.returns-in-Found
 returns-in-Found g c =
     let b = c.args.self.now in
-    let sound : TableSound g.K.Key.order g.K.Key.spread b.slots.now b.used = record { within = b.within; each = b.each; settled = b.settled; alone = b.alone } in
+    let sound = b.sound in
     let k = g.K.Key.plain c.args.key in
     let is = matches g.K.Key.order k in
     let l = table_ledger b.slots.now b.used in
@@ -25,9 +25,9 @@ returns-in-Found g c =
 pub returns-in_default : goal.returns-in_default
 returns-in_default g c =
     let b = c.args.self.now in
-    let sound : TableSound g.K.Key.order g.K.Key.spread b.slots.now b.used = record { within = b.within; each = b.each; settled = b.settled; alone = b.alone } in
+    let sound = b.sound in
     let k = g.K.Key.plain c.args.key in
     let is = matches g.K.Key.order k in
     let l = table_ledger b.slots.now b.used in
-    let none = probe_absent g.met.K.Key.total g.K.Key.spread b.slots.now b.settled k b.used (λ i e. c.in_default.not-Found i (c.probe_key.ensures.ends ∙ e)) in
+    let none = probe_absent g.met.K.Key.total g.K.Key.spread b.slots.now sound.settled k b.used (λ i e. c.in_default.not-Found i (c.probe_key.ensures.ends ∙ e)) in
     record { number = number_none is l.members none; totals = totals_none is l.members none }

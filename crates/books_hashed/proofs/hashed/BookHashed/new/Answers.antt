@@ -4,5 +4,4 @@ use Rattle.books_hashed.proofs.hashed.BookHashed.new.Goals as goal
 
 pub invariant_of-result : goal.invariant_of-result
 invariant_of-result g c =
-    let fresh = fresh_table g.K.Key.order g.K.Key.spread c.clear.new.slots 0 refl c.clear.ensures.free in
-    record { within = fresh.within; each = fresh.each; settled = fresh.settled; alone = fresh.alone }
+    record { sound = fresh_table g.K.Key.order g.K.Key.spread c.clear.new.slots 0 refl c.clear.ensures.free }

@@ -14,7 +14,7 @@ put_row-requires-clause-within g c =
 pub invariant_of-self : goal.invariant_of-self
 invariant_of-self g c =
     let b = c.args.self.now in
-    let sound : TableSound g.K.Key.order g.K.Key.spread b.slots.now b.used = record { within = b.within; each = b.each; settled = b.settled; alone = b.alone } in
+    let sound = b.sound in
     let k = g.K.Key.plain c.args.key in
     let is = matches g.K.Key.order k in
     let l = table_ledger b.slots.now b.used in
@@ -22,19 +22,17 @@ invariant_of-self g c =
     let row = c.joining-row.result in
     let same : row ≡ joining k (b.used + 1) = c.joining-row.ensures.joining ∙ (λ i. joining (c.to_plain.ensures.plain i) (c.next_number-number.ensures.next i)) in
     let slots' = c.put_row.new.slots in
-    let more = table_added_sound g.met.K.Key.total g.K.Key.spread k b.slots.now slots' b.used c.in_ok-at.at sound found.1 found.0 row same c.put_row.ensures.put in
-    let kept : TableSound g.K.Key.order g.K.Key.spread slots' c.put_row.new.used = subst (TableSound g.K.Key.order g.K.Key.spread slots') (sym c.put_row.ensures.counted) more in
-    record { within = kept.within; each = kept.each; settled = kept.settled; alone = kept.alone }
+    record { sound = subst (TableSound g.K.Key.order g.K.Key.spread slots') (sym c.put_row.ensures.counted) (table_added_sound g.met.K.Key.total g.K.Key.spread k b.slots.now slots' b.used c.in_ok-at.at sound found.1 found.0 row same c.put_row.ensures.put) }
 
 pub returns-clause-answer : goal.returns-clause-answer
 returns-clause-answer g c =
     let b = c.args.self.now in
-    let sound : TableSound g.K.Key.order g.K.Key.spread b.slots.now b.used = record { within = b.within; each = b.each; settled = b.settled; alone = b.alone } in
+    let sound = b.sound in
     let k = g.K.Key.plain c.args.key in
     let is = matches g.K.Key.order k in
     let l = table_ledger b.slots.now b.used in
     let found = c.in_ok-at.ensures.slot in
-    let none = probe_absent g.met.K.Key.total g.K.Key.spread b.slots.now b.settled k b.used (λ i e. free_found (sym found.1 ∙ e)) in
+    let none = probe_absent g.met.K.Key.total g.K.Key.spread b.slots.now sound.settled k b.used (λ i e. free_found (sym found.1 ∙ e)) in
     ap Ok c.next_number-number.ensures.next
     ∙ ap (λ n. Ok (n + 1)) (sym (table_count g.met.K.Key.total g.K.Key.spread b.slots.now b.used sound))
     ∙ allowed is l g.K.Key.BOOK _ none (table_room g.met.K.Key.total g.K.Key.spread b.slots.now b.used sound found.0)
@@ -42,7 +40,7 @@ returns-clause-answer g c =
 pub returns-clause-after : goal.returns-clause-after
 returns-clause-after g c =
     let b = c.args.self.now in
-    let sound : TableSound g.K.Key.order g.K.Key.spread b.slots.now b.used = record { within = b.within; each = b.each; settled = b.settled; alone = b.alone } in
+    let sound = b.sound in
     let k = g.K.Key.plain c.args.key in
     let is = matches g.K.Key.order k in
     let l = table_ledger b.slots.now b.used in
@@ -50,7 +48,7 @@ returns-clause-after g c =
     let row = c.joining-row.result in
     let same : row ≡ joining k (b.used + 1) = c.joining-row.ensures.joining ∙ (λ i. joining (c.to_plain.ensures.plain i) (c.next_number-number.ensures.next i)) in
     let slots' = c.put_row.new.slots in
-    let none = probe_absent g.met.K.Key.total g.K.Key.spread b.slots.now b.settled k b.used (λ i e. free_found (sym found.1 ∙ e)) in
+    let none = probe_absent g.met.K.Key.total g.K.Key.spread b.slots.now sound.settled k b.used (λ i e. free_found (sym found.1 ∙ e)) in
     ap (table_ledger slots') c.put_row.ensures.counted
     ∙ table_added g.met.K.Key.total g.K.Key.spread k b.slots.now slots' b.used c.in_ok-at.at sound found.1 found.0 row same c.put_row.ensures.put
     ∙ added is l k none (table_room g.met.K.Key.total g.K.Key.spread b.slots.now b.used sound found.0)

@@ -6,4 +6,4 @@ use Rattle.books_hashed.proofs.hashed.BookHashedBook.count.Goals as goal
 pub returns-clause-count : goal.returns-clause-count
 returns-clause-count g c =
     let b = c.args.self.now in
-    sym (length_members held b.used b.slots.now b.each)
+    sym (length_members held b.used b.slots.now b.sound.each)

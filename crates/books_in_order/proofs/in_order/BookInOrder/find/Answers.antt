@@ -1,14 +1,14 @@
 use Rattle.std.proofs.Common.{take, Some, sym, ap, ◌∙◌}
 use Rattle.books.specs.Ledger.{matches}
 use Rattle.books.proofs.Found.{number_none, totals_none}
-use Rattle.books_in_order.specs.InOrder.{keyed_ledger, KeyedSound}
+use Rattle.books_in_order.specs.InOrder.{keyed_ledger}
 use Rattle.books_in_order.proofs.KeyOrdered.{sought_absent, read_number, read_totals}
 use Rattle.books_in_order.proofs.in_order.BookInOrder.find.Goals as goal
 
 pub returns-in_default : goal.returns-in_default
 returns-in_default g c =
     let b = c.args.self.now in
-    let sound : KeyedSound g.K.Key.order b.rows.now b.used = record { within = b.within; each = b.each; rising = b.rising; alone = b.alone } in
+    let sound = b.sound in
     let k = g.K.Key.plain c.args.key in
     let is = matches g.K.Key.order k in
     let l = keyed_ledger b.rows.now b.used in
@@ -18,7 +18,7 @@ returns-in_default g c =
 pub returns : goal.returns
 returns g c =
     let b = c.args.self.now in
-    let sound : KeyedSound g.K.Key.order b.rows.now b.used = record { within = b.within; each = b.each; rising = b.rising; alone = b.alone } in
+    let sound = b.sound in
     let k = g.K.Key.plain c.args.key in
     let is = matches g.K.Key.order k in
     let l = keyed_ledger b.rows.now b.used in

@@ -2,14 +2,14 @@ use Rattle.std.proofs.Common.{take, sym}
 use Rattle.books.specs.Ledger.{matches}
 use Rattle.std.proofs.lemmas.Bool.{leb-true, leb-false}
 use Rattle.books.proofs.Verdicts.{refused_present, refused_full, allowed}
-use Rattle.books_in_order.specs.InOrder.{keyed_ledger, KeyedSound}
+use Rattle.books_in_order.specs.InOrder.{keyed_ledger}
 use Rattle.books_in_order.proofs.KeyOrdered.{sought_absent, sought_present, has_room, has_no_room}
 use Rattle.books_in_order.proofs.in_order.BookInOrder.vacancy.Goals as goal
 
 pub returns-in_default : goal.returns-in_default
 returns-in_default g c =
     let b = c.args.self.now in
-    let sound : KeyedSound g.K.Key.order b.rows.now b.used = record { within = b.within; each = b.each; rising = b.rising; alone = b.alone } in
+    let sound = b.sound in
     let k = g.K.Key.plain c.args.key in
     let is = matches g.K.Key.order k in
     let l = keyed_ledger b.rows.now b.used in
@@ -19,7 +19,7 @@ returns-in_default g c =
 pub returns-then-is_full : goal.returns-then-is_full
 returns-then-is_full g c =
     let b = c.args.self.now in
-    let sound : KeyedSound g.K.Key.order b.rows.now b.used = record { within = b.within; each = b.each; rising = b.rising; alone = b.alone } in
+    let sound = b.sound in
     let k = g.K.Key.plain c.args.key in
     let is = matches g.K.Key.order k in
     let l = keyed_ledger b.rows.now b.used in
@@ -30,7 +30,7 @@ returns-then-is_full g c =
 pub returns : goal.returns
 returns g c =
     let b = c.args.self.now in
-    let sound : KeyedSound g.K.Key.order b.rows.now b.used = record { within = b.within; each = b.each; rising = b.rising; alone = b.alone } in
+    let sound = b.sound in
     let k = g.K.Key.plain c.args.key in
     let is = matches g.K.Key.order k in
     let l = keyed_ledger b.rows.now b.used in

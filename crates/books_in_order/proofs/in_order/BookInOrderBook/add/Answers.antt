@@ -9,7 +9,7 @@ use Rattle.books_in_order.proofs.in_order.BookInOrderBook.add.Goals as goal
 pub invariant_of-self : goal.invariant_of-self
 invariant_of-self g c =
     let b = c.args.self.now in
-    let sound : KeyedSound g.K.Key.order b.rows.now b.used = record { within = b.within; each = b.each; rising = b.rising; alone = b.alone } in
+    let sound = b.sound in
     let k = g.K.Key.plain c.args.key in
     let is = matches g.K.Key.order k in
     let l = keyed_ledger b.rows.now b.used in
@@ -17,14 +17,12 @@ invariant_of-self g c =
     let row = c.joining-row.result in
     let same : row ≡ joining k (b.used + 1) = c.joining-row.ensures.joining ∙ (λ i. joining (c.to_plain.ensures.plain i) (c.next_number-number.ensures.next i)) in
     let slots' = c.insert.new.rows in
-    let more = added_sound g.met.K.Key.total k b.rows.now slots' b.used c.in_ok-place.place sound found.1 found.0 row same c.insert.auto.rows c.insert.ensures.inserted in
-    let kept : KeyedSound g.K.Key.order slots' c.insert.new.used = subst (KeyedSound g.K.Key.order slots') (sym c.insert.ensures.counted) more in
-    record { within = kept.within; each = kept.each; rising = kept.rising; alone = kept.alone }
+    record { sound = subst (KeyedSound g.K.Key.order slots') (sym c.insert.ensures.counted) (added_sound g.met.K.Key.total k b.rows.now slots' b.used c.in_ok-place.place sound found.1 found.0 row same c.insert.auto.rows c.insert.ensures.inserted) }
 
 pub returns-clause-answer : goal.returns-clause-answer
 returns-clause-answer g c =
     let b = c.args.self.now in
-    let sound : KeyedSound g.K.Key.order b.rows.now b.used = record { within = b.within; each = b.each; rising = b.rising; alone = b.alone } in
+    let sound = b.sound in
     let k = g.K.Key.plain c.args.key in
     let is = matches g.K.Key.order k in
     let l = keyed_ledger b.rows.now b.used in
@@ -35,7 +33,7 @@ returns-clause-answer g c =
 pub returns-clause-after : goal.returns-clause-after
 returns-clause-after g c =
     let b = c.args.self.now in
-    let sound : KeyedSound g.K.Key.order b.rows.now b.used = record { within = b.within; each = b.each; rising = b.rising; alone = b.alone } in
+    let sound = b.sound in
     let k = g.K.Key.plain c.args.key in
     let is = matches g.K.Key.order k in
     let l = keyed_ledger b.rows.now b.used in

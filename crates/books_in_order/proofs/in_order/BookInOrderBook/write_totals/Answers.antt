@@ -1,14 +1,14 @@
 use Rattle.std.proofs.Common.{take, ◌∙◌}
 use Rattle.books.specs.Ledger.{matches}
 use Rattle.books.proofs.Verdicts.{refused_absent, unwritten, written, written_answer}
-use Rattle.books_in_order.specs.InOrder.{keyed_ledger, KeyedSound}
+use Rattle.books_in_order.specs.InOrder.{keyed_ledger}
 use Rattle.books_in_order.proofs.KeyOrdered.{sought_absent, sought_present, written_ledger, written_sound}
 use Rattle.books_in_order.proofs.in_order.BookInOrderBook.write_totals.Goals as goal
 
 pub returns-in_default-clause-answer : goal.returns-in_default-clause-answer
 returns-in_default-clause-answer g c =
     let b = c.args.self.now in
-    let sound : KeyedSound g.K.Key.order b.rows.now b.used = record { within = b.within; each = b.each; rising = b.rising; alone = b.alone } in
+    let sound = b.sound in
     let k = g.K.Key.plain c.args.key in
     let is = matches g.K.Key.order k in
     let l = keyed_ledger b.rows.now b.used in
@@ -18,7 +18,7 @@ returns-in_default-clause-answer g c =
 pub returns-in_default-clause-after : goal.returns-in_default-clause-after
 returns-in_default-clause-after g c =
     let b = c.args.self.now in
-    let sound : KeyedSound g.K.Key.order b.rows.now b.used = record { within = b.within; each = b.each; rising = b.rising; alone = b.alone } in
+    let sound = b.sound in
     let k = g.K.Key.plain c.args.key in
     let is = matches g.K.Key.order k in
     let l = keyed_ledger b.rows.now b.used in
@@ -28,17 +28,16 @@ returns-in_default-clause-after g c =
 pub invariant_of-self : goal.invariant_of-self
 invariant_of-self g c =
     let b = c.args.self.now in
-    let sound : KeyedSound g.K.Key.order b.rows.now b.used = record { within = b.within; each = b.each; rising = b.rising; alone = b.alone } in
+    let sound = b.sound in
     let k = g.K.Key.plain c.args.key in
     let is = matches g.K.Key.order k in
     let l = keyed_ledger b.rows.now b.used in
-    let kept = written_sound g.met.K.Key.total k b.rows.now b.used c.in-Ok.at c.args.first c.args.second sound c.in-Ok.ensures.sought c.index-self-at.result c.with_totals.result c.with_totals.ensures.totals in
-    record { within = kept.within; each = kept.each; rising = kept.rising; alone = kept.alone }
+    record { sound = written_sound g.met.K.Key.total k b.rows.now b.used c.in-Ok.at c.args.first c.args.second sound c.in-Ok.ensures.sought c.index-self-at.result c.with_totals.result c.with_totals.ensures.totals }
 
 pub returns-clause-answer : goal.returns-clause-answer
 returns-clause-answer g c =
     let b = c.args.self.now in
-    let sound : KeyedSound g.K.Key.order b.rows.now b.used = record { within = b.within; each = b.each; rising = b.rising; alone = b.alone } in
+    let sound = b.sound in
     let k = g.K.Key.plain c.args.key in
     let is = matches g.K.Key.order k in
     let l = keyed_ledger b.rows.now b.used in
@@ -47,7 +46,7 @@ returns-clause-answer g c =
 pub returns-clause-after : goal.returns-clause-after
 returns-clause-after g c =
     let b = c.args.self.now in
-    let sound : KeyedSound g.K.Key.order b.rows.now b.used = record { within = b.within; each = b.each; rising = b.rising; alone = b.alone } in
+    let sound = b.sound in
     let k = g.K.Key.plain c.args.key in
     let is = matches g.K.Key.order k in
     let l = keyed_ledger b.rows.now b.used in
