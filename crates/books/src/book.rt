@@ -45,6 +45,6 @@ pub trait Book<K: Key> {
         ensures capacity { result ≡ (meaning self.now).capacity }
         ensures limited { result ≤ most_members };
 
-    // The same at any time, without a call.
+    // No two members have one key.
     ghost alone: { (book : Self) → apart K.Key.order (meaning book).members ≡ true };
 }
