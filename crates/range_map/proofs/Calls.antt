@@ -1,20 +1,17 @@
 -- From the exact contracts of lay and change to what they mean at a rising map. Assumes nothing.
-use Rattle.std.proofs.Common.{◌≡◌, ℕ, ◌+◌, ◌-◌, ◌^◌, ◌<◌, ◌≤◌, Bool, true, false, cond, ◌&&◌, ltb, leb, List, length, take, is_some, is_ok, Some, None, Ok, Option, Result, sym, refl, ap, ◌∙◌, subst, ⊎_elim, arith}
+use Rattle.std.proofs.Common.{◌≡◌, ℕ, ◌+◌, ◌-◌, ◌^◌, ◌<◌, ◌≤◌, Bool, true, false, cond, ◌&&◌, ltb, leb, List, length, is_some, is_ok, Some, None, Ok, Option, sym, refl, ap, ◌∙◌, subst, ⊎_elim, arith}
 use Rattle.std.proofs.lemmas.Bool.{cases_Bool, ltb-false, leb-true, leb-false, and_parts, or_parts, cond-true, cond-false, false≢true}
 use Rattle.std.specs.Option.{option_map}
 use Rattle.figures.specs.declared.names.Table.{Table}
 use Rattle.range_map.specs.declared.entry.Entry.{Entry}
-use Rattle.range_map.specs.declared.fault.MapFault.{MapFault}
 use Rattle.range_map.specs.Counts.{bit, how_many, total, passes, tally}
-use Rattle.range_map.specs.Plain.{bad, within, Between, Rising, at, payload_at, hit, gap, lay, change}
-use Rattle.range_map.specs.Placed.{taken, uncovered, cuts_in, laid, changed}
+use Rattle.range_map.specs.Plain.{bad, within, Between, Rising, at, payload_at, hit, gap, lay, change, cuts_of}
 use Rattle.range_map.specs.Replies.{lay_reply, change_reply, plain_lay, plain_change}
 use Rattle.range_map.specs.Map.{entry_of, lay_answer, change_answer}
 use Rattle.range_map.specs.Laws.{FirstOpen, PlainLay, PlainChange}
 use Rattle.range_map.proofs.Cutting.{at_change, at_lay, between_lay, between_change, length_lay, length_change}
-use Rattle.range_map.proofs.Joining.{taken_is, laid_is_lay, uncovered_is_gap, changed_is_change, cuts_in_are}
+use Rattle.range_map.proofs.Joining.{taken_is, uncovered_is_gap, cuts_in_are}
 use Rattle.range_map.proofs.Firsts.{gap_first}
-use Rattle.range_map.proofs.Slots.{clipped, few}
 use Rattle.range_map.proofs.Sums.{sum_same, sum_add}
 use Rattle.range_map.proofs.Counting.{alone, total_tally}
 
@@ -30,9 +27,6 @@ change_ok t true o q ok = absurd (false≢true ok)
 change_ok t false (Some n) q ok = absurd (false≢true ok)
 change_ok t false None true ok = absurd (false≢true ok)
 change_ok t false None false ok = (refl, refl, refl)
-
-pub change_passes : (t : Table) (b : Bool) (o : Option ℕ) (q : Bool) → b ≡ false → o ≡ None → q ≡ false → Ok tt ≡ change_reply t b o q
-change_passes t b o q good covered room = sym (λ j. change_reply t (good j) (covered j) (room j))
 
 pub good_range : (f l : ℕ) → bad f l ≡ false → (f ≤ l) × (l < 2 ^ 62)
 good_range f l good = let p = or_parts _ _ good in (ltb-false l f p.0, leb-false (2 ^ 62) l p.1)
@@ -67,82 +61,49 @@ module _ {P : Type 0} (t : Table) (slots f l : ℕ) (m : List (Entry P)) (w : Ri
       λ j. change_reply t (bad f l) (covered j) (ltb slots (length m + cuts j)))
       (cases_Bool (bad f l))
 
-module _ {P : Type 0} (t : Table) (slots f l : ℕ) (p : P) (m : List (Entry P)) (r : Result (Unit {0}) MapFault) (m' : List (Entry P)) where
-  module _ (reply : r ≡ lay_answer t slots f l m) (entries : m' ≡ cond (is_ok r) (laid (entry_of f l p) m) m) (w : Rising m) where
-    lay_passed : is_ok r ≡ true → (f ≤ l) × (l < 2 ^ 62) × (hit f l m ≡ None)
-    lay_passed ok =
-        let a = lay_ok t (bad f l) (taken f l m) (leb slots (length m)) (sym (ap is_ok reply) ∙ ok) in
-        let g = good_range f l a.0 in
-        (g.0, g.1, sym (taken_is 0 (2 ^ 62) m w f l) ∙ a.1)
+-- what a call that is not refused may count on
+module _ {P : Type 0} (t : Table) (slots f l : ℕ) (m : List (Entry P)) (v : Unit {0}) where
+  pub lay_lets : Ok v ≡ plain_lay t slots f l m → (f ≤ l) × (l < 2 ^ 62) × (hit f l m ≡ None) × (length m < slots)
+  lay_lets reply =
+      let a = lay_ok t (bad f l) (hit f l m) (leb slots (length m)) (sym (ap is_ok reply)) in
+      let g = good_range f l a.0 in
+      (g.0, g.1, a.1, leb-false slots (length m) a.2)
 
-    lay_after : is_ok r ≡ true → m' ≡ lay (entry_of f l p) m
-    lay_after ok = entries ∙ cond-true _ _ _ ok ∙ laid_is_lay 0 (2 ^ 62) m w (entry_of f l p)
+  pub change_lets : Ok v ≡ plain_change t slots f l m → (f ≤ l) × (l < 2 ^ 62) × (gap f l m ≡ None) × (length m + cuts_of f l m ≤ slots)
+  change_lets reply =
+      let a = change_ok t (bad f l) (gap f l m) (ltb slots (length m + cuts_of f l m)) (sym (ap is_ok reply)) in
+      let g = good_range f l a.0 in
+      (g.0, g.1, a.1, ltb-false slots (length m + cuts_of f l m) a.2)
 
+-- and what it leaves
+module _ {P : Type 0} (t : Table) (slots f l : ℕ) (p : P) (m m' : List (Entry P)) where
+  module _ (w : Rising m) (reply : Ok tt ≡ plain_lay t slots f l m) (after : m' ≡ lay (entry_of f l p) m) where
     pub lay_rising : Rising m'
-    lay_rising =
-        ⊎_elim
-        (λ ok. let a = lay_passed ok in subst Rising (sym (lay_after ok)) (between_lay (entry_of f l p) 0 (2 ^ 62) m (omega arith) a.0 a.1 a.2 w))
-        (λ no. subst Rising (sym (entries ∙ cond-false _ _ _ no)) w)
-        (cases_Bool (is_ok r))
+    lay_rising = let a = lay_lets t slots f l m tt reply in subst Rising (sym after) (between_lay (entry_of f l p) 0 (2 ^ 62) m (omega arith) a.0 a.1 a.2 w)
 
-    pub lay_plain : PlainLay t slots f l p m r m'
-    lay_plain = record {
-      reply = reply ∙ lay_answer_lem t slots f l m w;
-      entries = entries ∙ ap (λ x. cond (is_ok r) x m) (laid_is_lay 0 (2 ^ 62) m w (entry_of f l p));
-      positions = λ ok n. let a = lay_passed ok in ap (payload_at n) (lay_after ok) ∙ at_lay f l p n m a.0 a.2;
-      grows = λ ok. ap length (lay_after ok) ∙ length_lay (entry_of f l p) m;
-    }
+    pub lay_plain : PlainLay t slots f l p m (Ok tt) m'
+    lay_plain =
+        let a = lay_lets t slots f l m tt reply in
+        record {
+          reply = reply;
+          entries = after;
+          positions = λ ok n. ap (payload_at n) after ∙ at_lay f l p n m a.0 a.2;
+          grows = λ ok. ap length after ∙ length_lay (entry_of f l p) m;
+        }
 
-  module _ (reply : r ≡ change_answer t slots f l m) (entries : m' ≡ cond (is_ok r) (changed f l p m) m) (w : Rising m) where
-    change_passed : is_ok r ≡ true → (f ≤ l) × (gap f l m ≡ None)
-    change_passed ok =
-        let a = change_ok t (bad f l) (uncovered f l m) (ltb slots (length m + cuts_in f l m)) (sym (ap is_ok reply) ∙ ok) in
-        ((good_range f l a.0).0, sym (uncovered_is_gap 0 (2 ^ 62) m w f l) ∙ a.1)
-
-    change_after : is_ok r ≡ true → m' ≡ change f l p m
-    change_after ok = entries ∙ cond-true _ _ _ ok ∙ changed_is_change f l 0 (2 ^ 62) m w (change_passed ok).0 p
-
+  module _ (w : Rising m) (reply : Ok tt ≡ plain_change t slots f l m) (after : m' ≡ change f l p m) where
     pub change_rising : Rising m'
-    change_rising =
-        ⊎_elim
-        (λ ok. subst Rising (sym (change_after ok)) (between_change f l p 0 (2 ^ 62) m w))
-        (λ no. subst Rising (sym (entries ∙ cond-false _ _ _ no)) w)
-        (cases_Bool (is_ok r))
+    change_rising = subst Rising (sym after) (between_change f l p 0 (2 ^ 62) m w)
 
-    pub change_plain : PlainChange t slots f l p m r m'
-    change_plain = record {
-      reply = reply ∙ change_answer_lem t slots f l m w;
-      entries = ⊎_elim (λ ok. change_after ok ∙ sym (cond-true _ _ _ ok)) (λ no. entries ∙ cond-false _ _ _ no ∙ sym (cond-false _ _ _ no)) (cases_Bool (is_ok r));
-      positions = λ ok n. let a = change_passed ok in ap (payload_at n) (change_after ok) ∙ at_change f l p n 0 (2 ^ 62) m w a.0 ∙ covered_change f l p m a.0 a.1 n;
-      grows = λ ok. ap length (change_after ok) ∙ length_change f l p m (change_passed ok).0;
-    }
-
--- the count that the code writes takes the same entries as the clipped one
-module _ {P : Type 0} (u : ℕ) (xs : List (Entry P)) (used : ℕ) (is : used ≡ length (take u xs)) where
-  pub same_entries : take used xs ≡ take u xs
-  same_entries = ap (λ k. take k xs) is ∙ clipped u xs
-
-  pub used_fits : used ≤ length xs
-  used_fits = omega (arith, few u xs)
-
-  -- what the code of change wants of its slots, once its checks are passed
-  pub change_room : (t : Table) (f l : ℕ) (v : Unit {0}) → Ok v ≡ change_answer t (length xs) f l (take u xs) → (l < 2 ^ 62) × (used + cuts_in f l (take used xs) ≤ length xs)
-  change_room t f l v reply =
-      let a = change_ok t (bad f l) (uncovered f l (take u xs)) (ltb (length xs) (length (take u xs) + cuts_in f l (take u xs))) (sym (ap is_ok reply)) in
-      let room = ltb-false (length xs) _ a.2 in
-      ((good_range f l a.0).1, omega (arith, ap (cuts_in f l) same_entries))
-
-  pub lay_room : (t : Table) (f l : ℕ) (v : Unit {0}) → Ok v ≡ lay_answer t (length xs) f l (take u xs) → used < length xs
-  lay_room t f l v reply =
-      let a = lay_ok t (bad f l) (taken f l (take u xs)) (leb (length xs) (length (take u xs))) (sym (ap is_ok reply)) in
-      let room = leb-false (length xs) _ a.2 in
-      omega arith
-
-  pub changed_there : (f l : ℕ) (p : P) (ys : List (Entry P)) → ys ≡ changed f l p (take used xs) → ys ≡ changed f l p (take u xs)
-  changed_there f l p ys so = so ∙ ap (changed f l p) same_entries
-
-  pub laid_there : (x : Entry P) (ys : List (Entry P)) → ys ≡ laid x (take used xs) → ys ≡ laid x (take u xs)
-  laid_there x ys so = so ∙ ap (laid x) same_entries
+    pub change_plain : PlainChange t slots f l p m (Ok tt) m'
+    change_plain =
+        let a = change_lets t slots f l m tt reply in
+        record {
+          reply = reply;
+          entries = after;
+          positions = λ ok n. ap (payload_at n) after ∙ at_change f l p n 0 (2 ^ 62) m w a.0 ∙ covered_change f l p m a.0 a.2 n;
+          grows = λ ok. ap length after ∙ length_change f l p m a.0;
+        }
 
 -- what a change moves between totals: out goes what passed within the range, in comes its size, if the new payload passes
 module _ {P : Type 0} (t : P → Bool) (p : P) where

@@ -1,15 +1,20 @@
 -- At a rising map the halving stops behind exactly the entries that end before the position,
 -- so that the definitions by index are those by recursion. Assumes nothing.
-use Rattle.std.proofs.Common.{◌≡◌, ℕ, zero, suc, ◌+◌, ◌<◌, ◌≤◌, Bool, true, false, cond, ltb, leb, ◌⊎◌, List, [], ◌∷◌, ◌++◌, map, length, get_or, take, drop, sym, refl, ap, ◌∙◌, subst, inl, inr, ⊎_elim, zero-add, arith}
+use Rattle.std.proofs.Common.{◌≡◌, ℕ, zero, suc, ◌+◌, ◌-◌, ◌/◌, ◌<◌, ◌≤◌, Bool, true, false, cond, ltb, leb, ◌⊎◌, List, [], ◌∷◌, ◌++◌, map, length, get_or, take, drop, Some, None, Option, sym, refl, ap, ◌∙◌, subst, inl, inr, ⊎_elim, zero-add, arith}
 use lib.ListN.{length-map}
+use Rattle.std.specs.List.{insert, slice_get}
+use Rattle.std.specs.List.Sorted.{IsNonDecreasingBy, IsPartitionPoint}
+use Rattle.std.specs.Option.{option_and_then, option_map_or}
 use Rattle.std.proofs.lemmas.Bool.{cases_lt, cases_Bool, lt-ltb, le-ltb, ltb-true, ltb-false, leb-true, leb-false, cond-true, cond-false, cond_both}
 use Rattle.std.proofs.lemmas.Bool.Decides.{nat_tests}
 use Rattle.range_map.specs.declared.entry.Entry.{Entry}
 use Rattle.range_map.specs.Halving.{seek, lasts, place}
-use Rattle.range_map.specs.Plain.{Between, at, hit, gap, below, from, split, cut, cuts, lay, repaid, change, cuts_of}
+use Rattle.range_map.specs.Plain.{Between, at, hit, holding, meeting, gap, below, from, split, cut, cuts, lay, repaid, change, cuts_of}
 use Rattle.range_map.specs.Placed.{rest, head_at, found, head_hit, taken, uncovered, head_cuts, head_cut, ending, cuts_in, cut_at, paid, head_paid, paid_at, changed, laid}
-use Rattle.range_map.proofs.Seek.{mid}
 use Rattle.range_map.proofs.Cutting.{between_weaker, between_cut}
+
+abbrev mid : ℕ → ℕ → ℕ
+mid low high = low + (high - low) / 2
 
 -- r is a place to stop: what stands before it is below n, and what stands there is not
 pub record Stop (n : ℕ) (xs : List ℕ) (r : ℕ) : Type 0 where
@@ -67,6 +72,47 @@ module _ {P : Type 0} where
   pub place_skipped : (n b h : ℕ) (m : List (Entry P)) → Between b h m → place n m ≡ skipped n m
   place_skipped n b h m w = stop_skipped n b h m (place n m) w (place_stops n m)
 
+  -- where the entries that end before n stop, by a test of each
+  pub point_skipped : (n : ℕ) (m : List (Entry P)) (i : ℕ) → i ≤ length m → IsPartitionPoint (λ y. ltb y.last n ≡ true) (λ y. ltb y.last n ≡ false) m i → i ≡ skipped n m
+  point_skipped n [] i le p = omega arith
+  point_skipped n (e ∷ m) zero le p = sym (cond-false _ _ _ (p.1 0 e (omega arith) (omega arith)))
+  point_skipped n (e ∷ m) (suc i) le p =
+      let more = point_skipped n m i (omega arith) (λ k d low high. p.0 (suc k) d (omega arith) (omega arith), λ k d low high. p.1 (suc k) d (omega arith) (omega arith)) in
+      ap suc more ∙ sym (cond-true _ _ _ (p.0 0 e (omega arith) (omega arith)))
+
+  lasts_from : (b h : ℕ) (m : List (Entry P)) (j : ℕ) (d : Entry P) → Between b h m → j < length m → (b ≤ (get_or m j d).first) × ((get_or m j d).first ≤ (get_or m j d).last)
+  lasts_from b h [] j d w lt = absurd (omega arith)
+  lasts_from b h (e ∷ m) zero d w lt = (w.0, w.1)
+  lasts_from b h (e ∷ m) (suc j) d w lt = let more = lasts_from (e.last + 1) h m j d w.3 (omega arith) in (omega (arith, more.0), more.1)
+
+  pub lasts_rise : (b h : ℕ) (m : List (Entry P)) → Between b h m → IsNonDecreasingBy (λ e. e.last) m
+  lasts_rise b h [] w i j d le lt = absurd (omega arith)
+  lasts_rise b h (e ∷ m) w zero zero d le lt = omega arith
+  lasts_rise b h (e ∷ m) w zero (suc j) d le lt = let more = lasts_from (e.last + 1) h m j d w.3 (omega arith) in omega (arith, more.0, more.1)
+  lasts_rise b h (e ∷ m) w (suc i) zero d le lt = absurd (omega arith)
+  lasts_rise b h (e ∷ m) w (suc i) (suc j) d le lt = lasts_rise (e.last + 1) h m w.3 i j d (omega arith) (omega arith)
+
+  pub firsts_rise : (b h : ℕ) (m : List (Entry P)) → Between b h m → IsNonDecreasingBy (λ e. e.first) m
+  firsts_rise b h [] w i j d le lt = absurd (omega arith)
+  firsts_rise b h (e ∷ m) w zero zero d le lt = omega arith
+  firsts_rise b h (e ∷ m) w zero (suc j) d le lt = let more = lasts_from (e.last + 1) h m j d w.3 (omega arith) in omega (arith, more.0)
+  firsts_rise b h (e ∷ m) w (suc i) zero d le lt = absurd (omega arith)
+  firsts_rise b h (e ∷ m) w (suc i) (suc j) d le lt = firsts_rise (e.last + 1) h m w.3 i j d (omega arith) (omega arith)
+
+  get_split : (b : Bool) (s : ℕ) (e : Entry P) (m : List (Entry P)) → slice_get (e ∷ m) (cond b (suc s) 0) ≡ cond b (slice_get m s) (Some e)
+  get_split true s e m = refl
+  get_split false s e m = refl
+
+  -- a definition that passes over such entries and asks for no more than the next one
+  pub by_get : {Y : Type 0} (n : ℕ) (F : List (Entry P) → Y) (K : Option (Entry P) → Y) → F [] ≡ K None → ((e : Entry P) (m : List (Entry P)) → F (e ∷ m) ≡ cond (ltb e.last n) (F m) (K (Some e))) → (m : List (Entry P)) → F m ≡ K (slice_get m (skipped n m))
+  by_get n F K none more [] = none
+  by_get n F K none more (e ∷ m) =
+      let i = by_get n F K none more m in
+      ⊎_elim
+      (λ t. more e m ∙ cond-true _ _ _ t ∙ i ∙ sym (ap K (get_split _ (skipped n m) e m ∙ cond-true _ _ _ t)))
+      (λ t. more e m ∙ cond-false _ _ _ t ∙ sym (ap K (get_split _ (skipped n m) e m ∙ cond-false _ _ _ t)))
+      (cases_Bool (ltb e.last n))
+
   drop_split : (b : Bool) (s : ℕ) (e : Entry P) (m : List (Entry P)) → drop (cond b (suc s) 0) (e ∷ m) ≡ cond b (drop s m) (e ∷ m)
   drop_split true s e m = refl
   drop_split false s e m = refl
@@ -117,6 +163,40 @@ module _ {P : Type 0} where
     laid_is_lay x =
         ap (λ k. take k m ++ (x ∷ drop k m)) (place_skipped x.first b h m w)
         ∙ sym (by_keeping x.first (lay x) (λ r. x ∷ r) refl (λ _ _. refl) m)
+
+  -- what the entry where the halving stops answers
+  module _ (b h : ℕ) (m : List (Entry P)) (w : Between b h m) (n i : ℕ) (is : i ≡ place n m) where
+    stopped : i ≡ skipped n m
+    stopped = is ∙ place_skipped n b h m w
+
+    pub at_next : at n m ≡ option_and_then (holding n) (slice_get m i)
+    unfolding at
+    at_next = by_get n (at n) (option_and_then (holding n)) refl (λ _ _. refl) m ∙ ap (λ k. option_and_then (holding n) (slice_get m k)) (sym stopped)
+
+    pub hit_next : (l : ℕ) → hit n l m ≡ option_and_then (meeting n l) (slice_get m i)
+    unfolding hit
+    hit_next l = by_get n (hit n l) (option_and_then (meeting n l)) refl (λ _ _. refl) m ∙ ap (λ k. option_and_then (meeting n l) (slice_get m k)) (sym stopped)
+
+    -- a cut there, and how many entries it adds
+    pub cut_here : cut n m ≡ take i m ++ head_cut n (drop i m)
+    unfolding cut
+    cut_here = by_keeping n (cut n) (head_cut n) refl (λ _ _. refl) m ∙ ap (λ k. take k m ++ head_cut n (drop k m)) (sym stopped)
+
+    pub cuts_here : cuts n m ≡ head_cuts n (drop i m)
+    unfolding cuts
+    cuts_here = by_skipping n (cuts n) (head_cuts n) refl (λ _ _. refl) m ∙ ap (λ k. head_cuts n (drop k m)) (sym stopped)
+
+    pub cuts_next : cuts n m ≡ option_map_or (λ e. cond (ltb e.first n) 1 0) (slice_get m i) 0
+    unfolding cuts
+    cuts_next =
+        let next : Option (Entry P) → ℕ = λ o. option_map_or (λ e. cond (ltb e.first n) 1 0) o 0 in
+        by_get n (cuts n) next refl (λ _ _. refl) m ∙ ap (λ k. next (slice_get m k)) (sym stopped)
+
+  pub lay_here : (b h : ℕ) (m : List (Entry P)) → Between b h m → (x : Entry P) (i : ℕ) → i ≡ place x.first m → insert m i x ≡ lay x m
+  unfolding lay
+  lay_here b h m w x i is =
+      ap (λ k. insert m k x) (is ∙ place_skipped x.first b h m w)
+      ∙ sym (by_keeping x.first (lay x) (λ r. x ∷ r) refl (λ _ _. refl) m)
 
   between_drop : (b h : ℕ) (m : List (Entry P)) (i : ℕ) → Between b h m → Between 0 h (drop i m)
   between_drop b h m zero w = between_weaker 0 b h m (omega arith) w

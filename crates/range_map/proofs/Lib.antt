@@ -1,7 +1,5 @@
-pub mod Seek
 pub mod Stops
 pub mod Moves
-pub mod Rewrites
 pub mod Slots
 pub mod Cutting
 pub mod Joining

@@ -1,42 +1,36 @@
 -- What the moves and writes of an edit leave in the slots. Assumes nothing.
-use Rattle.std.proofs.Common.{◌≡◌, ℕ, ◌+◌, ◌-◌, ◌<◌, ◌≤◌, cond, leb, List, [], ◌∷◌, ◌++◌, length, get_or, take, drop, set, sym, refl, ap, ◌∙◌, ⊎_elim, append_assoc, append-nil, arith, length-drop, length-take, get_or-take}
+use Rattle.std.proofs.Common.{◌≡◌, ℕ, zero, suc, ◌+◌, ◌-◌, ◌^◌, ◌<◌, ◌≤◌, List, [], ◌∷◌, ◌++◌, map, length, get_or, take, drop, set, sym, refl, ap, ◌∙◌, add-one, append_assoc, arith, length-drop, get_or-take}
 use lib.Seq.{take-set-lt}
-use borrow.Rule.Slice.PartMut.{put_mid}
-use Rattle.std.specs.List.{insert, between}
-use Rattle.std.proofs.lemmas.List.{drop_all, take_all, take-take, take_more_set, drop-set-lt, take-append-drop, length-take-le, set-get_or}
-use Rattle.std.proofs.lemmas.Slice.{take-put_mid, between_is}
-use Rattle.std.proofs.lemmas.List.Edits.{length-between}
-use Rattle.std.proofs.lemmas.Bool.{cases_Bool, leb-true, leb-false, le-leb, lt-leb, lt-ltb, le-ltb, cond-true, cond-false}
+use Rattle.std.specs.List.{copy_within, insert}
+use Rattle.std.proofs.lemmas.List.{drop_all, take-take, take_more_set, drop-set-lt, take-append-drop, length-take-le}
+use Rattle.std.proofs.lemmas.List.Edits.{take-paste}
+use Rattle.std.proofs.lemmas.Slice.{between_is}
+use Rattle.std.proofs.lemmas.Bool.{ltb-true, ltb-false, le-leb, lt-leb, lt-ltb, le-ltb, and_from, and_left, and_right, cond-true, cond-false}
 use Rattle.range_map.specs.declared.entry.Entry.{Entry}
+use Rattle.range_map.specs.Begun.{BeginBelow}
+use Rattle.range_map.specs.Halving.{place}
 use Rattle.range_map.specs.Map.{entry_of}
-use Rattle.range_map.specs.Plain.{below, from}
-use Rattle.range_map.specs.Placed.{head_cut, head_cuts, cut_at, paid}
+use Rattle.range_map.specs.Placed.{head_cut, head_cuts}
+use Rattle.range_map.specs.Plain.{Between, below, cut, cuts, from, repaid}
+use Rattle.range_map.proofs.Joining.{cut_here, cuts_here}
 use Rattle.range_map.proofs.Stops.{drop_read}
 
 module _ {X : Type 0} where
-  set_front : (xs ys : List X) (x : X) → length xs ≡ 1 → set (xs ++ ys) 0 x ≡ x ∷ ys
-  set_front [] ys x one = absurd (omega arith)
-  set_front (a ∷ []) ys x one = refl
-  set_front (a ∷ b ∷ xs) ys x one = absurd (omega arith)
+  set_last : (xs ys : List X) (i : ℕ) (x : X) → i < length xs → set (take (suc i) xs ++ ys) i x ≡ take i xs ++ (x ∷ ys)
+  set_last [] ys i x lt = absurd (omega arith)
+  set_last (a ∷ xs) ys zero x lt = refl
+  set_last (a ∷ xs) ys (suc i) x lt = ap (λ r. a ∷ r) (set_last xs ys i x (omega arith))
 
-  pub shifted : (xs ys : List X) (x : X) → 0 < length xs → ys ≡ drop (length xs - 1) xs ++ take (length xs - 1) xs → set ys 0 x ≡ x ∷ take (length xs - 1) xs
-  shifted xs ys x some is =
-      let one : length (drop (length xs - 1) xs) ≡ 1 = simp length-drop (omega arith) in
-      ap (λ l. set l 0 x) is ∙ set_front (drop (length xs - 1) xs) (take (length xs - 1) xs) x one
-
-  -- the part from i to one past the entries in use, moved up by one under x
-  pub moved_in : (xs : List X) (used i : ℕ) (x : X) (part : List X) → i ≤ used → used < length xs → part ≡ x ∷ take (length (between i (used + 1) xs) - 1) (between i (used + 1) xs) → take (used + 1) (put_mid i (used + 1 - i) xs part) ≡ insert (take used xs) i x
-  moved_in xs used i x part le room is =
-      let long : length (between i (used + 1) xs) ≡ used + 1 - i = length-between xs i (used + 1) (omega arith) in
-      let tail : take (length (between i (used + 1) xs) - 1) (between i (used + 1) xs) ≡ drop i (take used xs)
-      = ap (λ k. take (k - 1) (between i (used + 1) xs)) long
-      ∙ take-take (used + 1 - i - 1) (used + 1 - i) (drop i xs) (omega arith)
-      ∙ ap (λ k. take k (drop i xs)) (omega arith)
-      ∙ between_is xs i used in
-      let whole : part ≡ x ∷ drop i (take used xs) = is ∙ ap (λ l. x ∷ l) tail in
-      let size : used + 1 ≡ i + length part = omega (arith, ap length whole, length-drop i (take used xs), length-take used xs) in
-      take-put_mid i (used + 1 - i) xs part (used + 1) size (omega arith)
-      ∙ sym (λ j. take-take i used xs le j ++ sym whole j)
+  -- the entries from i on moved up by one, and x in the slot that is free then
+  pub moved_in : (xs : List X) (used i : ℕ) (x : X) (ys : List X) → i ≤ used → used < length xs → ys ≡ copy_within xs i used (i + 1) → take (used + 1) (set ys i x) ≡ insert (take used xs) i x
+  moved_in xs used i x ys le room is =
+      let size : used + 1 ≡ i + 1 + (used - i) = omega arith in
+      let fits : used - i ≤ length (drop i xs) = simp length-drop (omega arith) in
+      let front : take (used + 1) ys ≡ take (i + 1) xs ++ take (used - i) (drop i xs) = (λ j. take (size j) (is j)) ∙ take-paste xs (i + 1) (drop i xs) (used - i) (omega arith) fits in
+      take-set-lt (used + 1) ys i x (omega arith)
+      ∙ ap (λ r. set r i x) (front ∙ (λ j. take (add-one i j) xs ++ between_is xs i used j))
+      ∙ set_last xs (drop i (take used xs)) i x (omega arith)
+      ∙ ap (λ r. r ++ (x ∷ drop i (take used xs))) (sym (take-take i used xs le))
 
   -- an element read from the slots, below those in use
   pub read_in : (xs : List X) (used i : ℕ) (e : X) → i < used → e ≡ get_or xs i e → e ≡ get_or (take used xs) i e
@@ -48,81 +42,96 @@ module _ {X : Type 0} where
       (λ j. take_more_set m i a lt j ++ (b ∷ drop-set-lt (i + 1) m i a (omega arith) j))
       ∙ append_assoc (take i m) (a ∷ []) (b ∷ drop (i + 1) m)
 
-module _ {P : Type 0} where
-  -- the entry at i stays whole: it is not there, or it begins at n or past it
-  pub cut_none : (n : ℕ) (m : List (Entry P)) (i : ℕ) → length m ≤ i → (m ≡ cut_at i n m) × (head_cuts n (drop i m) ≡ 0)
-  unfolding cut_at
-  cut_none n m i past =
-      (sym ((λ j. take_all i m past j ++ head_cut n (drop_all i m past j)) ∙ append-nil m), ap (head_cuts n) (drop_all i m past))
+module _ {P : Type 0} (f l : ℕ) (p : P) where
+  before : (e : Entry P) → e.first < f → repaid f l p e ≡ e
+  before e lt = ap (λ q. record { first = e.first; last = e.last; payload = q }) (cond-false _ _ _ (and_left _ _ (lt-leb f e.first lt)))
 
-  pub cut_border : (n : ℕ) (m : List (Entry P)) (i : ℕ) (e : Entry P) → i < length m → e ≡ get_or m i e → n ≤ e.first → (m ≡ cut_at i n m) × (head_cuts n (drop i m) ≡ 0)
-  unfolding cut_at
-  cut_border n m i e lt read begun =
-      let d = drop_read m i e lt read in
-      let t = le-ltb _ n begun in (
-        sym (take-append-drop i m) ∙ ap (λ l. take i m ++ l) (d ∙ sym (cond-false _ _ _ t) ∙ sym (ap (head_cut n) d)),
-        ap (head_cuts n) d ∙ cond-false _ _ _ t,
-      )
+  behind : (e : Entry P) → l < e.first → repaid f l p e ≡ e
+  behind e lt = ap (λ q. record { first = e.first; last = e.last; payload = q }) (cond-false _ _ _ (and_right _ _ (lt-leb e.first l lt)))
 
-  pub cut_inside : (n : ℕ) (m : List (Entry P)) (i : ℕ) (e : Entry P) → i < length m → e ≡ get_or m i e → e.first < n → (insert (set m i (below n e)) (i + 1) (from n e) ≡ cut_at i n m) × (head_cuts n (drop i m) ≡ 1)
-  unfolding cut_at
-  cut_inside n m i e lt read begun =
-      let d = drop_read m i e lt read in
-      let t = lt-ltb _ n begun in (
-        two_for_one m i (below n e) (from n e) lt ∙ ap (λ l. take i m ++ l) (sym (ap (head_cut n) d ∙ cond-true _ _ _ t)),
-        ap (head_cuts n) d ∙ cond-true _ _ _ t,
-      )
+  inside : (e : Entry P) → f ≤ e.first → e.first ≤ l → repaid f l p e ≡ entry_of e.first e.last p
+  inside e low high = ap (λ q. record { first = e.first; last = e.last; payload = q }) (cond-true _ _ _ (and_from _ _ (le-leb f e.first low) (le-leb e.first l high)))
 
-  -- the loop that pays: what is paid so far, and what is still to pay
-  pay_on : (l : ℕ) (p : P) (m : List (Entry P)) (i : ℕ) (e : Entry P) → i < length m → e ≡ get_or m i e → e.first ≤ l → take (i + 1) (set m i (entry_of e.first e.last p)) ++ paid l p (drop (i + 1) (set m i (entry_of e.first e.last p))) ≡ take i m ++ paid l p (drop i m)
-  unfolding paid
-  pay_on l p m i e lt read within =
-      let x : Entry P = entry_of e.first e.last p in
-      (λ j. take_more_set m i x lt j ++ paid l p (drop-set-lt (i + 1) m i x (omega arith) j))
-      ∙ append_assoc (take i m) (x ∷ []) (paid l p (drop (i + 1) m))
-      ∙ ap (λ r. take i m ++ r) (sym (ap (paid l p) (drop_read m i e lt read) ∙ cond-true _ _ _ (le-leb _ l within)))
+  -- what is paid so far, and what is left as it was
+  abbrev pub paid_below : ℕ → List (Entry P) → List (Entry P)
+  paid_below i m = map (repaid f l p) (take i m) ++ drop i m
 
-  pay_stop : (l : ℕ) (p : P) (m : List (Entry P)) (i : ℕ) (e : Entry P) → i < length m → e ≡ get_or m i e → l < e.first → m ≡ take i m ++ paid l p (drop i m)
-  unfolding paid
-  pay_stop l p m i e lt read past =
-      let d = drop_read m i e lt read in
-      sym (take-append-drop i m) ∙ ap (λ r. take i m ++ r) (d ∙ sym (ap (paid l p) d ∙ cond-false _ _ _ (lt-leb _ l past)))
+  -- no entry is paid below the first that begins in the range, and none behind the last
+  pub pay_start : (m : List (Entry P)) (i : ℕ) → i ≤ length m → BeginBelow f m i → m ≡ paid_below i m
+  pay_start m zero le s = refl
+  pay_start [] (suc i) le s = refl
+  pay_start (e ∷ m) (suc i) le s =
+      let more = pay_start m i (omega arith) (λ k d low high. s.0 (suc k) d (omega arith) (omega arith), λ k d low high. s.1 (suc k) d (omega arith) (omega arith)) in
+      λ j. sym (before e (ltb-true e.first f (s.0 0 e (omega arith) (omega arith)))) j ∷ more j
 
-  pub pay_end : (l : ℕ) (p : P) (m : List (Entry P)) (i : ℕ) → length m ≤ i → m ≡ take i m ++ paid l p (drop i m)
-  unfolding paid
-  pay_end l p m i past = sym ((λ j. take_all i m past j ++ paid l p (drop_all i m past j)) ∙ append-nil m)
+  pub pay_end : (m : List (Entry P)) (i : ℕ) → i ≤ length m → BeginBelow (l + 1) m i → paid_below i m ≡ map (repaid f l p) m
+  pay_end [] zero le s = refl
+  pay_end [] (suc i) le s = refl
+  pay_end (e ∷ m) zero le s =
+      let more = pay_end m zero (omega arith) (λ k d low high. absurd (omega arith), λ k d low high. s.1 (suc k) d (omega arith) (omega arith)) in
+      λ j. sym (behind e (omega (arith, ltb-false e.first (l + 1) (s.1 0 e (omega arith) (omega arith))))) j ∷ more j
+  pay_end (e ∷ m) (suc i) le s =
+      let more = pay_end m i (omega arith) (λ k d low high. s.0 (suc k) d (omega arith) (omega arith), λ k d low high. s.1 (suc k) d (omega arith) (omega arith)) in
+      ap (λ r. repaid f l p e ∷ r) more
 
-  -- one turn: x is what the entry e at i becomes, and k is where the loop goes on
-  pub pay_turn : (l : ℕ) (p : P) (m : List (Entry P)) (i end : ℕ) (e x : Entry P) (k : ℕ) → i < end → end ≡ length m → e ≡ get_or m i e → x ≡ cond (leb e.first l) (entry_of e.first e.last p) e → k ≡ cond (leb e.first l) (i + 1) end → take k (set m i x) ++ paid l p (drop k (set m i x)) ≡ take i m ++ paid l p (drop i m)
-  pay_turn l p m i end e x k lt whole read becomes goes =
-      ⊎_elim
-      (λ t.
-      (λ j. let y = (becomes ∙ cond-true _ _ _ t) j in let z = (goes ∙ cond-true _ _ _ t) j in take z (set m i y) ++ paid l p (drop z (set m i y)))
-      ∙ pay_on l p m i e (omega arith) read (leb-true e.first l t))
-      (λ t.
-      let same : set m i x ≡ m = ap (set m i) (becomes ∙ cond-false _ _ _ t ∙ read) ∙ set-get_or m i e in
-      let past : k ≡ end = goes ∙ cond-false _ _ _ t in
-      (λ j. take k (same j) ++ paid l p (drop k (same j)))
-      ∙ sym (pay_end l p m k (omega arith)) ∙ pay_stop l p m i e (omega arith) read (leb-false e.first l t))
-      (cases_Bool (leb e.first l))
+  -- one entry paid
+  abbrev written : List (Entry P) → ℕ → Entry P → Entry P
+  written s i e = record { first = (get_or s i e).first; last = (get_or s i e).last; payload = p }
 
-  -- the same over slots of which `used` are in use
-  module _ (xs : List (Entry P)) (used i : ℕ) (n : ℕ) (fits : used ≤ length xs) where
-    long : length (take used xs) ≡ used
-    long = length-take-le used xs fits
+  pay_one : (m : List (Entry P)) (i : ℕ) (e : Entry P) → i < length m → f ≤ (get_or m i e).first → (get_or m i e).first ≤ l → set (paid_below i m) i (written (paid_below i m) i e) ≡ paid_below (suc i) m
+  pay_one [] i e lt low high = absurd (omega arith)
+  pay_one (x ∷ m) zero e lt low high = ap (λ y. y ∷ m) (sym (inside x low high))
+  pay_one (x ∷ m) (suc i) e lt low high = ap (λ r. repaid f l p x ∷ r) (pay_one m i e (omega arith) low high)
 
-    pub slot_cut_none : used ≤ i → (take used xs ≡ cut_at i n (take used xs)) × (head_cuts n (drop i (take used xs)) ≡ 0)
-    slot_cut_none past = let h = long in cut_none n (take used xs) i (omega arith)
+  pub pay_turn : (m xs : List (Entry P)) (used i low high : ℕ) (e : Entry P) → used ≤ length xs → length m ≡ used → i < used → take used xs ≡ paid_below i m → BeginBelow f m low → BeginBelow (l + 1) m high → low ≤ i → i < high → take used (set xs i (written xs i e)) ≡ paid_below (i + 1) m
+  pay_turn m xs used i low high e fits long lt now s t from_low to_high =
+      let begun = ltb-false _ f (s.1 i e from_low (omega arith)) in
+      let ends = ltb-true _ (l + 1) (t.0 i e (omega arith) to_high) in
+      take-set-lt used xs i (written xs i e) lt
+      ∙ ap (λ y. set (take used xs) i (record { first = y.first; last = y.last; payload = p })) (sym (get_or-take used xs i e lt))
+      ∙ ap (λ r. set r i (written r i e)) now
+      ∙ pay_one m i e (omega arith) begun (omega (arith, ends))
+      ∙ ap (λ k. paid_below k m) (sym (add-one i))
 
-    module _ (e : Entry P) (lt : i < used) (read : e ≡ get_or xs i e) where
-      pub slot_cut_border : n ≤ e.first → (take used xs ≡ cut_at i n (take used xs)) × (head_cuts n (drop i (take used xs)) ≡ 0)
-      slot_cut_border begun = let h = long in cut_border n (take used xs) i e (omega arith) (read_in xs used i e lt read) begun
+  pub low_high : (m : List (Entry P)) (low high : ℕ) → f ≤ l → low ≤ length m → BeginBelow f m low → BeginBelow (l + 1) m high → low ≤ high
+  low_high [] low high le long s t = omega arith
+  low_high (e ∷ m) zero high le long s t = omega arith
+  low_high (e ∷ m) (suc low) zero le long s t =
+      absurd (omega (arith, ltb-true e.first f (s.0 0 e (omega arith) (omega arith)), ltb-false e.first (l + 1) (t.1 0 e (omega arith) (omega arith))))
+  low_high (e ∷ m) (suc low) (suc high) le long s t =
+      let more = low_high m low high le (omega arith) (λ k d a b. s.0 (suc k) d (omega arith) (omega arith), λ k d a b. s.1 (suc k) d (omega arith) (omega arith)) (λ k d a b. t.0 (suc k) d (omega arith) (omega arith), λ k d a b. t.1 (suc k) d (omega arith) (omega arith)) in
+      omega arith
 
-      pub slot_cut_counts : e.first < n → head_cuts n (drop i (take used xs)) ≡ 1
-      slot_cut_counts begun = let h = long in (cut_inside n (take used xs) i e (omega arith) (read_in xs used i e lt read) begun).1
+-- a cut before n where its place i is among the entries in use
+module _ {P : Type 0} (xs : List (Entry P)) (used i n : ℕ) (fits : used ≤ length xs) (w : Between 0 (2 ^ 62) (take used xs)) (is : i ≡ place n (take used xs)) where
+  kept : (d : List (Entry P)) → drop i (take used xs) ≡ d → head_cut n d ≡ d → take used xs ≡ cut n (take used xs)
+  kept d at whole =
+      sym (take-append-drop i (take used xs)) ∙ ap (λ r. take i (take used xs) ++ r) (at ∙ sym whole ∙ ap (head_cut n) (sym at))
+      ∙ sym (cut_here 0 (2 ^ 62) (take used xs) w n i is)
 
-      pub slot_cut_inside : e.first < n → (x y : Entry P) → x ≡ below n e → y ≡ from n e → (ys : List (Entry P)) → ys ≡ insert (take used (set xs i x)) (i + 1) y → ys ≡ cut_at i n (take used xs)
-      slot_cut_inside begun x y low high ys is =
-          let h = long in
-          is ∙ (λ j. insert (take used (set xs i (low j))) (i + 1) (high j)) ∙ ap (λ l. insert l (i + 1) (from n e)) (take-set-lt used xs i (below n e) lt)
-          ∙ (cut_inside n (take used xs) i e (omega arith) (read_in xs used i e lt read) begun).0
+  counts : (d : List (Entry P)) (k : ℕ) → drop i (take used xs) ≡ d → head_cuts n d ≡ k → cuts n (take used xs) ≡ k
+  counts d k at adds = cuts_here 0 (2 ^ 62) (take used xs) w n i is ∙ ap (head_cuts n) at ∙ adds
+
+  pub cut_none : used ≤ i → (take used xs ≡ cut n (take used xs)) × (cuts n (take used xs) ≡ 0)
+  cut_none past =
+      let at = drop_all i (take used xs) (omega (arith, length-take-le used xs fits)) in
+      (kept [] at refl, counts [] 0 at refl)
+
+  module _ (e : Entry P) (lt : i < used) (read : e ≡ get_or xs i e) where
+    here : drop i (take used xs) ≡ e ∷ drop (i + 1) (take used xs)
+    here = drop_read (take used xs) i e (omega (arith, length-take-le used xs fits)) (read_in xs used i e lt read)
+
+    pub cut_border : n ≤ e.first → (take used xs ≡ cut n (take used xs)) × (cuts n (take used xs) ≡ 0)
+    cut_border begun =
+        let t = le-ltb _ n begun in
+        (kept _ here (cond-false _ _ _ t), counts _ 0 here (cond-false _ _ _ t))
+
+    pub cut_adds : e.first < n → cuts n (take used xs) ≡ 1
+    cut_adds begun = counts _ 1 here (cond-true _ _ _ (lt-ltb _ n begun))
+
+    pub cut_inside : e.first < n → (x y : Entry P) → x ≡ below n e → y ≡ from n e → (ys : List (Entry P)) → ys ≡ insert (take used (set xs i x)) (i + 1) y → ys ≡ cut n (take used xs)
+    cut_inside begun x y low high ys so =
+        so ∙ (λ j. insert (take used (set xs i (low j))) (i + 1) (high j)) ∙ ap (λ l. insert l (i + 1) (from n e)) (take-set-lt used xs i (below n e) lt)
+        ∙ two_for_one (take used xs) i (below n e) (from n e) (omega (arith, length-take-le used xs fits))
+        ∙ ap (λ l. take i (take used xs) ++ l) (sym (ap (head_cut n) here ∙ cond-true _ _ _ (lt-ltb _ n begun)))
+        ∙ sym (cut_here 0 (2 ^ 62) (take used xs) w n i is)

@@ -1,37 +1,23 @@
 -- Entries by index, and what a map's slots say of its entries in use. Assumes nothing.
-use Rattle.std.proofs.Common.{◌≡◌, ℕ, zero, suc, ◌+◌, ◌<◌, ◌≤◌, cond, List, [], ◌∷◌, length, get_or, take, set, IfSome, Some, None, Option, sym, refl, ap, ◌∙◌, arith, length-take, MatchOption}
+use Rattle.std.proofs.Common.{◌≡◌, ℕ, zero, suc, ◌+◌, ◌≤◌, cond, List, [], ◌∷◌, length, get_or, take, set, IfSome, Some, None, Option, sym, refl, ap, ◌∙◌, arith, MatchOption}
 use Rattle.std.proofs.lemmas.Bool.Decides.{nat_tests}
+use Rattle.std.specs.List.{slice_get}
 use Rattle.range_map.specs.declared.entry.Entry.{Entry}
 use Rattle.range_map.specs.Laws.{PlainRepay}
 use Rattle.range_map.specs.Map.{nth, repaid_at}
 use Rattle.range_map.specs.Plain.{Between, at, payload_at, within}
 
 module _ {X : Type 0} where
-  pub nth_read : (m : List X) (i : ℕ) (e : X) → i < length m → e ≡ get_or m i e → Some e ≡ nth i m
-  nth_read [] i e lt read = absurd (omega arith)
-  nth_read (x ∷ m) zero e lt read = ap Some read
-  nth_read (x ∷ m) (suc i) e lt read = nth_read m i e (omega arith) read
-
-  pub nth_past : (m : List X) (i : ℕ) → length m ≤ i → None ≡ nth i m
-  nth_past [] i past = refl
-  nth_past (x ∷ m) zero past = absurd (omega arith)
-  nth_past (x ∷ m) (suc i) past = nth_past m i (omega arith)
-
-  -- at most all of the slots are in use
-  pub few : (used : ℕ) (xs : List X) → length (take used xs) ≤ length xs
-  few used xs = omega (arith, length-take used xs)
-
-  -- the count clipped to the slots is the number of entries, and takes the same entries
-  pub clipped : (used : ℕ) (xs : List X) → take (length (take used xs)) xs ≡ take used xs
-  clipped zero xs = refl
-  clipped (suc used) [] = refl
-  clipped (suc used) (x ∷ xs) = ap (λ r. x ∷ r) (clipped used xs)
+  pub nth_is : (m : List X) (i : ℕ) → nth i m ≡ slice_get m i
+  nth_is [] i = refl
+  nth_is (x ∷ m) zero = refl
+  nth_is (x ∷ m) (suc i) = nth_is m i
 
 module _ {P : Type 0} where
-  pub put_is : (m : List (Entry P)) (i : ℕ) (e : Entry P) (p : P) → e ≡ get_or m i e → set m i (record { first = e.first; last = e.last; payload = p }) ≡ repaid_at i p m
-  put_is [] i e p read = refl
-  put_is (x ∷ m) zero e p read = ap (λ y. record { first = y.first; last = y.last; payload = p } ∷ m) read
-  put_is (x ∷ m) (suc i) e p read = ap (λ r. x ∷ r) (put_is m i e p read)
+  pub put_is : (m : List (Entry P)) (i : ℕ) (e : Entry P) (p : P) → set m i (record { first = (get_or m i e).first; last = (get_or m i e).last; payload = p }) ≡ repaid_at i p m
+  put_is [] i e p = refl
+  put_is (x ∷ m) zero e p = refl
+  put_is (x ∷ m) (suc i) e p = ap (λ r. x ∷ r) (put_is m i e p)
 
   pub repaid_past : (m : List (Entry P)) (i : ℕ) (p : P) → length m ≤ i → m ≡ repaid_at i p m
   repaid_past [] i p past = refl

@@ -1,44 +1,90 @@
--- What is read where the halving stops is what the definitions answer. Assumes nothing.
-use Rattle.std.proofs.Common.{◌≡◌, ℕ, ◌+◌, ◌<◌, ◌≤◌, List, [], ◌∷◌, length, get_or, drop, Some, None, sym, ap, ◌∙◌}
+-- What is read where the halving stops, and the walk from there on. Assumes nothing.
+use Rattle.std.proofs.Common.{◌≡◌, ℕ, suc, ◌+◌, ◌^◌, ◌<◌, ◌≤◌, Bool, true, false, cond, leb, ltb, max, List, [], ◌∷◌, length, get_or, drop, Bor, MatchOption, Some, None, Option, sym, refl, ap, ◌∙◌, subst, arith}
 use Rattle.std.proofs.lemmas.List.{drop_all, drop_more}
-use Rattle.std.proofs.lemmas.Bool.{lt-ltb, le-ltb, cond-true, cond-false}
+use Rattle.std.proofs.lemmas.Bool.{lt-ltb, le-ltb, ltb-false, cond-true, cond-false, cond_both}
+use Rattle.std.proofs.lemmas.Option.{slice_get_past, slice_get_read}
+use Rattle.std.specs.Bool.{then_some}
+use Rattle.std.specs.Int.{from_bool}
+use Rattle.std.specs.List.{slice_get}
+use Rattle.std.specs.Option.{IsSomeAnd, option_and_then, option_copied, option_map, option_map_or}
+use Rattle.std.specs.Slice.{IsItemAt}
 use Rattle.range_map.specs.declared.entry.Entry.{Entry}
 use Rattle.range_map.specs.Halving.{place}
-use Rattle.range_map.specs.Plain.{gap, holding, meeting}
-use Rattle.range_map.specs.Placed.{rest, head_at, head_hit, found, taken, uncovered}
+use Rattle.range_map.specs.Placed.{uncovered}
+use Rattle.range_map.specs.Plain.{Between, gap, meeting}
+use Rattle.range_map.proofs.Joining.{skipped}
 
-module _ {P : Type 0} where
-  pub rest_none : (n : ℕ) (m : List (Entry P)) (i : ℕ) → i ≡ place n m → length m ≤ i → rest n m ≡ []
-  rest_none n m i is past = ap (λ k. drop k m) (sym is) ∙ drop_all i m past
+module _ {X : Type 0} where
+  pub got : (xs : List X) (i : ℕ) (r : Option (Bor X)) → IsItemAt xs i r → option_copied r ≡ slice_get xs i
+  got xs i None h = sym (slice_get_past xs i h.3)
+  got xs i (Some x) h = sym (slice_get_read xs (length xs) i x.now refl h.3.0 h.1)
+
+  then_some_is : (b : Bool) (x : X) → then_some b x ≡ cond b (Some x) None
+  then_some_is true x = refl
+  then_some_is false x = refl
+
+  -- what `filter` leaves of a value that is tested by t
+  pub filtered : (t : X → Bool) (R : X → Bool → Type 0) (o r : Option X) → ((x : X) (b : Bool) → R x b → b ≡ t x) → MatchOption o (r ≡ None) (λ x. (b : Bool) × R x b × (r ≡ then_some b x)) → r ≡ option_and_then (λ x. cond (t x) (Some x) None) o
+  filtered t R None r told h = h
+  filtered t R (Some x) r told h = h.2 ∙ ap (λ b. then_some b x) (told x h.0 h.1) ∙ then_some_is (t x) x
+
+  -- what `map` and `is_some_and` make of a value behind a reference
+  pub mapped : {Y : Type 0} (v : X → Y) (Q : Bor X → Y → Type 0) (o : Option (Bor X)) (r : Option Y) → ((x : Bor X) (y : Y) → Q x y → y ≡ v x.now) → MatchOption o (r ≡ None) (λ x. IsSomeAnd r (Q x)) → r ≡ option_map v (option_copied o)
+  mapped v Q None r told h = h
+  mapped v Q (Some x) None told h = absurd h
+  mapped v Q (Some x) (Some y) told h = ap Some (told x y h)
+
+  pub asked : (t : X → Bool) (Q : Bor X → Type 0) (o : Option (Bor X)) (r : Bool) → ((x : Bor X) → Q x → r ≡ t x.now) → MatchOption o (r ≡ false) Q → r ≡ option_map_or t (option_copied o) false
+  asked t Q None r told h = h
+  asked t Q (Some x) r told h = told x h
 
   -- the element that was read at i stands in front of what follows it
-  pub drop_read : (m : List (Entry P)) (i : ℕ) (e : Entry P) → i < length m → e ≡ get_or m i e → drop i m ≡ e ∷ drop (i + 1) m
+  pub drop_read : (m : List X) (i : ℕ) (e : X) → i < length m → e ≡ get_or m i e → drop i m ≡ e ∷ drop (i + 1) m
   drop_read m i e lt read = drop_more m i e lt ∙ ap (λ x. x ∷ drop (i + 1) m) (sym read)
 
-  pub rest_some : (n : ℕ) (m : List (Entry P)) (i : ℕ) (e : Entry P) → i ≡ place n m → i < length m → e ≡ get_or m i e → rest n m ≡ e ∷ drop (i + 1) m
-  rest_some n m i e is lt read = ap (λ k. drop k m) (sym is) ∙ drop_read m i e lt read
+module _ {P : Type 0} where
+  pub met : (f l : ℕ) (o : Option (Entry P)) → option_and_then (λ k. cond (leb k l) (Some k) None) (option_map (λ e. max f e.first) o) ≡ option_and_then (meeting f l) o
+  met f l None = refl
+  met f l (Some e) = refl
 
-  pub found_none : (n : ℕ) (m : List (Entry P)) (i : ℕ) → i ≡ place n m → length m ≤ i → None ≡ found n m
-  unfolding found
-  found_none n m i is past = sym (ap (head_at n) (rest_none n m i is past))
+  pub counted : (n : ℕ) (o o' : Option (Entry P)) → o ≡ o' → from_bool (option_map_or (λ e. ltb e.first n) o false) ≡ option_map_or (λ e. cond (ltb e.first n) 1 0) o' 0
+  counted n o o' is = each o ∙ ap (λ x. option_map_or (λ e. cond (ltb e.first n) 1 0) x 0) is
+    where
+      one : (b : Bool) → from_bool b ≡ cond b 1 0
+      one true = refl
+      one false = refl
 
-  pub found_some : (n : ℕ) (m : List (Entry P)) (i : ℕ) (e : Entry P) → i ≡ place n m → i < length m → e ≡ get_or m i e → holding n e ≡ found n m
-  unfolding found
-  found_some n m i e is lt read = sym (ap (head_at n) (rest_some n m i e is lt read))
+      each : (x : Option (Entry P)) → from_bool (option_map_or (λ e. ltb e.first n) x false) ≡ option_map_or (λ e. cond (ltb e.first n) 1 0) x 0
+      each None = refl
+      each (Some e) = one (ltb e.first n)
 
-  pub taken_none : (f l : ℕ) (m : List (Entry P)) (i : ℕ) → i ≡ place f m → length m ≤ i → None ≡ taken f l m
-  unfolding taken
-  taken_none f l m i is past = sym (ap (head_hit f l) (rest_none f m i is past))
+  -- the entries that a walk for n has ahead of it: none of them ends before n
+  abbrev pub Ahead : ℕ → List (Entry P) → Type 0
+  Ahead n [] = Unit {0}
+  Ahead n (e ∷ m) = (n ≤ e.last) × Between (e.last + 1) (2 ^ 62) m
 
-  pub taken_some : (f l : ℕ) (m : List (Entry P)) (i : ℕ) (e : Entry P) → i ≡ place f m → i < length m → e ≡ get_or m i e → meeting f l e ≡ taken f l m
-  unfolding taken
-  taken_some f l m i e is lt read = sym (ap (head_hit f l) (rest_some f m i e is lt read))
+  ahead_of : (b : ℕ) (m : List (Entry P)) → Between b (2 ^ 62) m → Ahead b m
+  ahead_of b [] w = tt
+  ahead_of b (e ∷ m) w = (omega arith, w.3)
 
-  -- the walk: one entry passed over, the two ways to stop, one entry covered, the end
-  pub walk_over : (g l : ℕ) (m : List (Entry P)) (i : ℕ) (e : Entry P) → i < length m → e ≡ get_or m i e → e.last < g → gap g l (drop i m) ≡ gap g l (drop (i + 1) m)
-  unfolding gap
-  walk_over g l m i e lt read less = ap (gap g l) (drop_read m i e lt read) ∙ cond-true _ _ _ (lt-ltb _ g less)
+  ahead_split : (n s : ℕ) (b : Bool) (e : Entry P) (m : List (Entry P)) → Ahead n (cond b (drop s m) (e ∷ m)) → Ahead n (drop (cond b (suc s) 0) (e ∷ m))
+  ahead_split n s true e m a = a
+  ahead_split n s false e m a = a
 
+  pub ahead_start : (n b : ℕ) (m : List (Entry P)) → Between b (2 ^ 62) m → Ahead n (drop (skipped n m) m)
+  ahead_start n b [] w = tt
+  ahead_start n b (e ∷ m) w =
+      ahead_split n (skipped n m) (ltb e.last n) e m
+      (cond_both {A = List (Entry P)} (ltb e.last n) _ _ (Ahead n) (λ _. ahead_start n (e.last + 1) m w.3) (λ t. let reach = ltb-false e.last n t in (reach, w.3)))
+
+  module _ (n : ℕ) (m : List (Entry P)) (i : ℕ) (e : Entry P) (lt : i < length m) (read : e ≡ get_or m i e) (a : Ahead n (drop i m)) where
+    pub reached : n ≤ e.last
+    reached = (subst (Ahead n) (drop_read m i e lt read) a).0
+
+    pub ahead_next : Ahead (e.last + 1) (drop (i + 1) m)
+    ahead_next = ahead_of (e.last + 1) (drop (i + 1) m) (subst (Ahead n) (drop_read m i e lt read) a).1
+
+  -- the two ways in which the walk stops, one entry covered, the end
   pub walk_open : (g l : ℕ) (m : List (Entry P)) (i : ℕ) (e : Entry P) → i < length m → e ≡ get_or m i e → g ≤ e.last → g < e.first → gap g l (drop i m) ≡ Some g
   unfolding gap
   walk_open g l m i e lt read reach later = ap (gap g l) (drop_read m i e lt read) ∙ cond-false _ _ _ (le-ltb _ g reach) ∙ cond-true _ _ _ (lt-ltb g _ later)

@@ -1,8 +1,10 @@
 pub mod Plain
 pub mod Counts
 pub mod Halving
+pub mod Begun
 pub mod Placed
 pub mod Replies
+pub mod Lent
 pub mod Map
 pub mod Laws
 pub mod Sample

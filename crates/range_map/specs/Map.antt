@@ -1,19 +1,20 @@
--- What a map holds: its slots, and the entries in use. A count past the slots reads as all of them.
+-- What a map holds: its slots, and the entries in use.
 -- And what its calls answer, on any entries.
-use Rattle.std.specs.Prelude.{ℕ, zero, suc, ◌+◌, List, [], ◌∷◌, length, take, Some, None, Option, Result, nat_le, nat_lt}
+use Rattle.std.specs.Prelude.{ℕ, zero, suc, ◌+◌, List, [], ◌∷◌, length, Some, None, Option, Result, nat_le, nat_lt}
 use Rattle.figures.specs.declared.names.Table.{Table}
 use Rattle.range_map.specs.declared.entry.Entry.{Entry}
 use Rattle.range_map.specs.declared.fault.MapFault.{MapFault}
 use Rattle.range_map.specs.declared.map.RangeMap.{RangeMap}
+use Rattle.range_map.specs.Lent.{entries_in, slots_in}
 use Rattle.range_map.specs.Plain.{bad}
 use Rattle.range_map.specs.Placed.{taken, uncovered, cuts_in}
 use Rattle.range_map.specs.Replies.{lay_reply, change_reply}
 
 abbrev pub in_use : {P : Type 0} → RangeMap P → List (Entry P)
-in_use s = take s.used s.slots.now
+in_use s = entries_in s.inner
 
 abbrev pub slots_of : {P : Type 0} → RangeMap P → ℕ
-slots_of s = length s.slots.now
+slots_of s = slots_in s.inner
 
 -- the entry of the range f to l with the payload p
 abbrev pub entry_of : {P : Type 0} → ℕ → ℕ → P → Entry P

@@ -1,6 +1,8 @@
 -- A map is a list of entries. What each question and each call means, by recursion over the list.
 -- Every definition passes over the entries that end before the position asked for: at a rising map these are the ones below it.
 use Rattle.std.specs.Prelude.{ℕ, ◌+◌, ◌-◌, ◌^◌, ◌<◌, ◌≤◌, max, Bool, cond, ◌&&◌, ◌||◌, List, [], ◌∷◌, map, Some, None, Option, nat_le, nat_lt}
+use mathlib.Core.HLevel.{Unit-prop}
+use native.Mathlib.Bridge.{le_prop}
 use Rattle.std.specs.Option.{option_map}
 use Rattle.range_map.specs.declared.entry.Entry.{Entry}
 
@@ -20,6 +22,11 @@ Between b h (e ∷ m) = (b ≤ e.first) × (e.first ≤ e.last) × (e.last < h) 
 -- no two entries share a position, and they lie in rising order
 abbrev pub Rising : {P : Type 0} → List (Entry P) → Type 0
 Rising m = Between 0 (2 ^ 62) m
+
+-- which has one proof at most
+pub Between_prop : {P : Type 0} (b h : ℕ) (m : List (Entry P)) → IsProp (Between b h m)
+Between_prop b h [] = Unit-prop
+Between_prop b h (e ∷ m) = λ x y i. (le_prop x.0 y.0 i, le_prop x.1 y.1 i, le_prop x.2 y.2 i, Between_prop (e.last + 1) h m x.3 y.3 i)
 
 -- e, where its positions have begun by n
 abbrev pub holding : {P : Type 0} → ℕ → Entry P → Option (Entry P)

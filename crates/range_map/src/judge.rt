@@ -1,7 +1,7 @@
 // The checks of a call, in their order, on the entries in use.
 ghost use Rattle.std.specs.Prelude.{◌≡◌, ◌≤◌, length};
-ghost use Rattle.range_map.specs.Map.{change_answer, lay_answer};
-ghost use Rattle.range_map.specs.Plain.{bad};
+ghost use Rattle.range_map.specs.Plain.{Rising, bad};
+ghost use Rattle.range_map.specs.Replies.{plain_change, plain_lay};
 
 use super::entry::{Entry, Payload};
 use super::fault::MapFault;
@@ -22,7 +22,8 @@ pub(crate) fn judge_lay<P: Payload>(
     first: u64,
     last: u64,
 ) -> Result<(), MapFault>
-    ensures { result ≡ lay_answer P.TABLE slots first last entries.now }
+    requires { Rising entries.now }
+    ensures { result ≡ plain_lay P.TABLE slots first last entries.now }
 {
     if is_bad(first, last) {
         return Err(MapFault::BadRange);
@@ -42,8 +43,9 @@ pub(crate) fn judge_change<P: Payload>(
     first: u64,
     last: u64,
 ) -> Result<(), MapFault>
-    requires { length entries.now ≤ slots }
-    ensures { result ≡ change_answer P.TABLE slots first last entries.now }
+    requires rising { Rising entries.now }
+    requires fits { length entries.now ≤ slots }
+    ensures { result ≡ plain_change P.TABLE slots first last entries.now }
 {
     if is_bad(first, last) {
         return Err(MapFault::BadRange);

@@ -1,13 +1,14 @@
 // One range map for every kind of payload, over slots that the caller lends.
-// Its meaning is a rising list of entries, no two sharing a position; every call is defined for any slots and any count in use.
+// Its meaning is a rising list of entries, no two sharing a position.
 #![tactic(auto)]
 
-mod edit;
 mod entry;
 mod fault;
 mod find;
 mod judge;
+mod lent;
 mod map;
+mod operations;
 
 pub use entry::{Entry, Payload};
 pub use fault::{MapFault, Returned};

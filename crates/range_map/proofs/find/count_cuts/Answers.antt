@@ -1,10 +1,7 @@
-use Rattle.std.proofs.Common.{ap, ◌∙◌, arith}
-use Rattle.std.proofs.lemmas.List.{take_rest}
-use Rattle.range_map.specs.Halving.{place}
-use Rattle.range_map.proofs.Rewrites.{cuts_are}
+use Rattle.std.proofs.Common.{arith}
+use Rattle.range_map.specs.Plain.{cuts_of}
 use Rattle.range_map.proofs.find.count_cuts.Goals as goal
 
-pub returns : goal.returns
-returns g c =
-    let all = cuts_are c.args.first c.args.last c.args.entries.now _ _ c.find-i.ensures.place (c.find.ensures.place ∙ ap (place _) (take_rest c.args.entries.now c.find-i.result)) in
-    record { cuts = omega (arith, all, c.splits.ensures.cuts, c.splits-2.ensures.cuts); few = omega arith }
+pub returns-clause-cuts : goal.returns-clause-cuts
+unfolding cuts_of
+returns-clause-cuts g c = omega (arith, c.splits.ensures.cuts, c.splits-2.ensures.cuts)

@@ -1,9 +1,14 @@
-use Rattle.std.proofs.Common.{◌∙◌}
-use Rattle.range_map.proofs.Stops.{found_none, found_some}
+use Rattle.std.proofs.Common.{◌^◌, leb, sym, ap, ◌∙◌, rules}
+use Rattle.std.specs.Option.{option_and_then}
+use Rattle.range_map.specs.Plain.{holding}
+use Rattle.range_map.proofs.Joining.{at_next}
+use Rattle.range_map.proofs.Stops.{filtered, got}
 use Rattle.range_map.proofs.find.covering.Goals as goal
 
-pub returns-then-i-entries : goal.returns-then-i-entries
-returns-then-i-entries g c = found_none _ c.args.entries.now _ c.find-i.ensures.place c.if-i-entries.true
-
 pub returns : goal.returns
-returns g c = c.hold.ensures ∙ found_some _ c.args.entries.now _ _ c.find-i.ensures.place c.if-i-entries.false c.index-entries-i.is
+returns g c =
+    let m = c.args.entries.now in
+    let n = c.args.position in
+    filtered (λ e. leb e.first n) _ c.copied.result _ (λ e b h. search rules) c.filter.ensures
+    ∙ ap (option_and_then (holding n)) (c.copied.ensures ∙ got m _ c.get.result c.get.ensures.lookup)
+    ∙ sym (at_next 0 (2 ^ 62) m c.requires n _ c.find-i.ensures.place)

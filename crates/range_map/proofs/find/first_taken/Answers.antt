@@ -1,9 +1,16 @@
-use Rattle.std.proofs.Common.{◌∙◌}
-use Rattle.range_map.proofs.Stops.{taken_none, taken_some}
+use Rattle.std.proofs.Common.{◌^◌, leb, max, sym, ap, ◌∙◌, rules}
+use Rattle.std.specs.Option.{option_and_then}
+use Rattle.range_map.specs.Plain.{meeting}
+use Rattle.range_map.proofs.Joining.{hit_next}
+use Rattle.range_map.proofs.Stops.{filtered, got, mapped, met}
 use Rattle.range_map.proofs.find.first_taken.Goals as goal
 
-pub returns-then-i-entries : goal.returns-then-i-entries
-returns-then-i-entries g c = taken_none _ _ c.args.entries.now _ c.find-i.ensures.place c.if-i-entries.true
-
 pub returns : goal.returns
-returns g c = c.meet.ensures ∙ taken_some _ _ c.args.entries.now _ _ c.find-i.ensures.place c.if-i-entries.false c.index-entries-i.is
+returns g c =
+    let m = c.args.entries.now in
+    let f = c.args.first in
+    let l = c.args.last in
+    filtered (λ k. leb k l) _ c.map.result _ (λ k b h. search rules) c.filter.ensures
+    ∙ ap (option_and_then _) (mapped (λ e. max f e.first) _ c.get.result _ (λ e k h. search rules) c.map.ensures.cases)
+    ∙ met f l _ ∙ ap (option_and_then (meeting f l)) (got m _ c.get.result c.get.ensures.lookup)
+    ∙ sym (hit_next 0 (2 ^ 62) m c.requires f _ c.find-i.ensures.place l)

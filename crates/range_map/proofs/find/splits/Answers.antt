@@ -1,15 +1,13 @@
-use Rattle.std.proofs.Common.{ℕ, ◌≤◌, cond, ltb, sym, ◌∙◌, arith}
-use Rattle.std.proofs.lemmas.Bool.{cond_both}
-use Rattle.range_map.proofs.Rewrites.{splits_none, splits_some}
+use Rattle.std.proofs.Common.{◌^◌, ltb, sym, ap, ◌∙◌, rules}
+use Rattle.std.specs.Int.{from_bool}
+use Rattle.range_map.proofs.Joining.{cuts_next}
+use Rattle.range_map.proofs.Stops.{asked, counted, got}
 use Rattle.range_map.proofs.find.splits.Goals as goal
 
-pub returns-then-i-entries : goal.returns-then-i-entries
-returns-then-i-entries g c = record { cuts = sym (splits_none _ c.args.entries.now _ c.if-i-entries.true); few = omega arith }
-
-pub returns : goal.returns
-returns g c =
-    let one : cond (ltb c.index-entries-i.result.first c.args.n) 1 0 ≤ 1 = cond_both {A = ℕ} _ 1 0 (λ k. k ≤ 1) (λ _. omega arith) (λ _. omega arith) in
-    record {
-      cuts = c.split_of.ensures ∙ sym (splits_some _ c.args.entries.now _ _ c.if-i-entries.false c.index-entries-i.is);
-      few = omega (arith, c.split_of.ensures, one);
-    }
+pub returns-clause-cuts : goal.returns-clause-cuts
+returns-clause-cuts g c =
+    let m = c.args.entries.now in
+    let n = c.args.n in
+    c.«from».ensures ∙ ap from_bool (asked (λ e. ltb e.first n) _ c.get.result _ (λ e h. search rules) c.is_some_and.ensures)
+    ∙ counted n _ _ (got m _ c.get.result c.get.ensures.lookup)
+    ∙ sym (cuts_next 0 (2 ^ 62) m c.requires n _ c.find-i.ensures.place)

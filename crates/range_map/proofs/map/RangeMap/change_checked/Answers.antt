@@ -1,25 +1,35 @@
+use Rattle.std.proofs.Common.{◌^◌, sym, ◌∙◌, arith, length-take}
 use Rattle.range_map.specs.Map.{in_use, slots_of}
-use Rattle.range_map.proofs.Calls.{used_fits, change_room, changed_there, change_rising, change_plain}
+use Rattle.range_map.proofs.Calls.{change_lets, change_plain, change_rising}
+use Rattle.range_map.proofs.Joining.{changed_is_change}
 use Rattle.range_map.proofs.map.RangeMap.change_checked.Goals as goal
 
-pub rewrite-self-requires : goal.rewrite-self-requires
-rewrite-self-requires g c =
+pub change-requires : goal.change-requires
+change-requires g c =
     let s = c.args.self.now in
-    let room = change_room s.used s.slots.now c.count-used.result c.count-used.ensures.in_use g.P.Payload.TABLE c.args.first c.args.last _ c.requires in
-    record { fits = used_fits s.used s.slots.now c.count-used.result c.count-used.ensures.in_use; bound = room.0; room = room.1 }
-
-pub returns : goal.returns
-returns g c =
-    let f = c.args.first in
-    let l = c.args.last in
-    let p = c.args.payload in
-    let t = g.P.Payload.TABLE in
-    let s = c.args.self.now in
-    let reply = c.requires in
-    let entries = changed_there s.used s.slots.now c.count-used.result c.count-used.ensures.in_use f l p _ c.rewrite-self.ensures.after in
+    let lets = change_lets g.P.Payload.TABLE (slots_of s) c.args.first c.args.last (in_use s) _ c.requires in
     record {
-      entries = entries;
-      slots_stay = c.rewrite-self.auto.slots;
-      keeps_rising = change_rising t (slots_of s) f l p (in_use s) _ _ reply entries;
-      in_plain_words = change_plain t (slots_of s) f l p (in_use s) _ _ reply entries;
+      sound = record { fits = s.fits; rising = s.rising };
+      ordered = lets.0;
+      bound = lets.1;
+      room = omega (arith, lets.3, s.fits, length-take s.inner.used s.inner.slots.now);
     }
+
+pub invariant_of-self : goal.invariant_of-self
+invariant_of-self g c =
+    let s = c.args.self.now in
+    record {
+      fits = c.change.ensures.fits;
+      rising = change_rising g.P.Payload.TABLE (slots_of s) c.args.first c.args.last c.args.payload (in_use s) _ s.rising c.requires c.change.ensures.after;
+    }
+
+pub returns-clause-entries : goal.returns-clause-entries
+returns-clause-entries g c =
+    let s = c.args.self.now in
+    let lets = change_lets g.P.Payload.TABLE (slots_of s) c.args.first c.args.last (in_use s) _ c.requires in
+    c.change.ensures.after ∙ sym (changed_is_change c.args.first c.args.last 0 (2 ^ 62) (in_use s) s.rising lets.0 c.args.payload)
+
+pub returns-clause-in_plain_words : goal.returns-clause-in_plain_words
+returns-clause-in_plain_words g c =
+    let s = c.args.self.now in
+    change_plain g.P.Payload.TABLE (slots_of s) c.args.first c.args.last c.args.payload (in_use s) _ s.rising c.requires c.change.ensures.after

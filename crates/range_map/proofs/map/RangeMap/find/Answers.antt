@@ -1,7 +1,7 @@
 use Rattle.std.proofs.Common.{◌^◌, sym, ap, ◌∙◌, subst}
 use Rattle.range_map.specs.Laws.{Covering}
 use Rattle.range_map.specs.Map.{in_use}
-use Rattle.range_map.specs.Placed.{found}
+use Rattle.range_map.specs.Plain.{at}
 use Rattle.range_map.proofs.Firsts.{at_covering}
 use Rattle.range_map.proofs.Joining.{found_is}
 use Rattle.range_map.proofs.map.RangeMap.find.Goals as goal
@@ -10,9 +10,10 @@ pub returns : goal.returns
 returns g c =
     let n = c.args.position in
     let m = in_use c.args.self.now in
-    let is = c.covering.ensures ∙ ap (found n) c.entries.ensures.as_they_lie in
+    let w = c.args.self.now.rising in
+    let is = c.covering.ensures ∙ ap (at n) c.entries.ensures.as_they_lie in
     record {
-      as_placed = is;
-      in_plain_words = λ w. is ∙ found_is 0 (2 ^ 62) m w n;
-      covering = λ w. subst (Covering n m) (sym (is ∙ found_is 0 (2 ^ 62) m w n)) (at_covering n 0 (2 ^ 62) m w);
+      as_placed = is ∙ sym (found_is 0 (2 ^ 62) m w n);
+      in_plain_words = is;
+      covering = subst (Covering n m) (sym is) (at_covering n 0 (2 ^ 62) m w);
     }

@@ -1,9 +1,9 @@
 use Rattle.std.proofs.Common.{◌^◌, sym, ap, ◌∙◌, subst}
 use Rattle.range_map.specs.Laws.{FirstTaken}
 use Rattle.range_map.specs.Map.{in_use}
-use Rattle.range_map.specs.Placed.{taken}
-use Rattle.range_map.proofs.Joining.{taken_is}
+use Rattle.range_map.specs.Plain.{hit}
 use Rattle.range_map.proofs.Firsts.{hit_first}
+use Rattle.range_map.proofs.Joining.{taken_is}
 use Rattle.range_map.proofs.map.RangeMap.taken.Goals as goal
 
 pub returns : goal.returns
@@ -11,8 +11,9 @@ returns g c =
     let f = c.args.first in
     let l = c.args.last in
     let m = in_use c.args.self.now in
-    let is = c.first_taken.ensures ∙ ap (taken f l) c.entries.ensures.as_they_lie in
+    let w = c.args.self.now.rising in
+    let is = c.first_taken.ensures ∙ ap (hit f l) c.entries.ensures.as_they_lie in
     record {
-      as_placed = is;
-      in_plain_words = λ w. subst (FirstTaken f l m) (sym (is ∙ taken_is 0 (2 ^ 62) m w f l)) (hit_first f l 0 (2 ^ 62) m w);
+      as_placed = is ∙ sym (taken_is 0 (2 ^ 62) m w f l);
+      in_plain_words = subst (FirstTaken f l m) (sym is) (hit_first f l 0 (2 ^ 62) m w);
     }

@@ -1,0 +1,132 @@
+// Slots that the caller lends, with the entries in use in front. Slots past them are undecided.
+ghost use Rattle.std.specs.Prelude.{◌≡◌, ◌+◌, ◌^◌, ◌<◌, ◌≤◌, length, map};
+ghost use Rattle.std.specs.List.{insert};
+ghost use Rattle.range_map.specs.Begun.{BeginBelow};
+ghost use Rattle.range_map.specs.Lent.{LentSound, entries_in, slots_in};
+ghost use Rattle.range_map.specs.Map.{entry_of, repaid_at};
+ghost use Rattle.range_map.specs.Plain.{change, cut, cuts, cuts_of, lay, repaid};
+
+use crate::entry::Entry;
+use crate::find::{begun, find};
+
+#[derive(Drop)]
+pub struct Lent<'a, P> {
+    pub(crate) slots: &'a mut [Entry<P>],
+    pub(crate) used: usize,
+}
+
+impl<'a, P: Copy> Lent<'a, P> {
+    pub(crate) fn new(slots: &'a mut [Entry<P>]) -> Lent<'a, P>
+        ensures none_used { result.used ≡ 0 }
+        ensures all_slots { slots_in result ≡ length slots.old }
+    {
+        Lent { slots, used: 0 }
+    }
+
+    pub(crate) fn entries(&self) -> &[Entry<P>]
+        requires fits { self.now.used ≤ slots_in self.now }
+        ensures { result.now ≡ entries_in self.now }
+    {
+        &self.slots[..self.used]
+    }
+
+    // One entry more, at index `i`: those from there on go one slot up.
+    fn insert(&mut self, i: usize, x: Entry<P>)
+        requires within { i ≤ self.old.used }
+        requires room { self.old.used < slots_in self.old }
+        ensures after { entries_in self.new ≡ insert (entries_in self.old) i x }
+        ensures count { self.new.used ≡ self.old.used + 1 }
+        ensures slots_stay { slots_in self.new ≡ slots_in self.old }
+    {
+        let used = self.used;
+        self.slots.copy_within(i..used, i + 1);
+        self.slots[i] = x;
+        self.used = used + 1;
+    }
+
+    // One entry more, in its place.
+    pub(crate) fn lay(&mut self, x: Entry<P>)
+        requires sound { LentSound self.old }
+        requires room { self.old.used < slots_in self.old }
+        ensures after { entries_in self.new ≡ lay x (entries_in self.old) }
+        ensures count { self.new.used ≡ self.old.used + 1 }
+        ensures slots_stay { slots_in self.new ≡ slots_in self.old }
+    {
+        let i = find(self.entries(), x.first);
+        self.insert(i, x);
+    }
+
+    // The entry in which `n` lies past the first position becomes two, cut before `n`: both keep the payload.
+    fn cut(&mut self, n: u64)
+        requires sound { LentSound self.old }
+        requires room { self.old.used + cuts n (entries_in self.old) ≤ slots_in self.old }
+        ensures after { entries_in self.new ≡ cut n (entries_in self.old) }
+        ensures count { self.new.used ≡ self.old.used + cuts n (entries_in self.old) }
+        ensures slots_stay { slots_in self.new ≡ slots_in self.old }
+    {
+        let i = find(self.entries(), n);
+        if i >= self.used {
+            return;
+        }
+        let e = self.slots[i];
+        if e.first >= n {
+            return;
+        }
+        self.slots[i] = e.lower_part(n);
+        self.insert(i + 1, e.upper_part(n));
+    }
+
+    // The indices, from the first to one past the last, of the entries that begin within a range.
+    fn begun_within(&self, first: u64, last: u64) -> (usize, usize)
+        requires sound { LentSound self.now }
+        requires bound { last < 2 ^ 62 }
+        ensures low { BeginBelow first (entries_in self.now) result.0 }
+        ensures high { BeginBelow (last + 1) (entries_in self.now) result.1 }
+        ensures within { (result.0 ≤ self.now.used) × (result.1 ≤ self.now.used) }
+    {
+        let entries = self.entries();
+        (begun(entries, first), begun(entries, last + 1))
+    }
+
+    // The payload for these entries.
+    fn pay(&mut self, first: u64, last: u64, payload: P)
+        requires sound { LentSound self.old }
+        requires ordered { first ≤ last }
+        requires bound { last < 2 ^ 62 }
+        ensures after { entries_in self.new ≡ map (repaid first last payload) (entries_in self.old) }
+        ensures count { self.new.used ≡ self.old.used }
+        ensures slots_stay { slots_in self.new ≡ slots_in self.old }
+    {
+        let (low, high) = self.begun_within(first, last);
+        // By index: a proof knows nothing of what is written through `iter_mut`.
+        for i in low..high {
+            self.slots[i].payload = payload;
+        }
+    }
+
+    // Both cuts, then the payload for what lies between.
+    pub(crate) fn change(&mut self, first: u64, last: u64, payload: P)
+        requires sound { LentSound self.old }
+        requires ordered { first ≤ last }
+        requires bound { last < 2 ^ 62 }
+        requires room { self.old.used + cuts_of first last (entries_in self.old) ≤ slots_in self.old }
+        ensures after { entries_in self.new ≡ change first last payload (entries_in self.old) }
+        ensures fits { self.new.used ≤ slots_in self.new }
+        ensures slots_stay { slots_in self.new ≡ slots_in self.old }
+    {
+        self.cut(last + 1);
+        self.cut(first);
+        self.pay(first, last, payload);
+    }
+
+    // The payload of one entry, in place.
+    pub(crate) fn put(&mut self, i: usize, payload: P)
+        requires fits { self.old.used ≤ slots_in self.old }
+        requires within { i < self.old.used }
+        ensures after { entries_in self.new ≡ repaid_at i payload (entries_in self.old) }
+        ensures count { self.new.used ≡ self.old.used }
+        ensures slots_stay { slots_in self.new ≡ slots_in self.old }
+    {
+        self.slots[i].payload = payload;
+    }
+}

@@ -1,0 +1,194 @@
+// What may be asked of a map, and done to it. Answers and entries are stated by the index at which a halving stops,
+// and by the definitions in plain words (the clauses `in_plain_words`): entries rise, so the two agree.
+ghost use Rattle.std.specs.Prelude.{◌≡◌, ◌<◌, false, [], length, is_ok, if◌then◌else◌, Ok, nat_le, nat_lt};
+ghost use Rattle.range_map.specs.Halving.{place};
+ghost use Rattle.range_map.specs.Laws.{Covering, CutLosesNothing, FirstOpen, FirstTaken, PlainChange, PlainLay, PlainRepay, RunsAtMost, SizesCountPositions};
+ghost use Rattle.range_map.specs.Map.{change_answer, entry_of, in_use, lay_answer, nth, repaid_at, slots_of};
+ghost use Rattle.range_map.specs.Placed.{changed, found, laid, payload_found, taken};
+ghost use Rattle.range_map.specs.Plain.{Rising, at, bad, gap, payload_at};
+ghost use Rattle.range_map.specs.Replies.{plain_change, plain_lay};
+
+use crate::entry::{Entry, Payload};
+use crate::fault::MapFault;
+use crate::find::{covering, find, first_taken};
+use crate::judge::{judge_change, judge_lay};
+use crate::lent::Lent;
+use crate::map::RangeMap;
+
+impl<'a, P: Payload> RangeMap<'a, P> {
+    // An empty map, whatever the slots hold.
+    pub fn new(slots: &'a mut [Entry<P>]) -> RangeMap<'a, P>
+        ensures empty { in_use result ≡ [] }
+        ensures all_slots { slots_of result ≡ length slots.old }
+        ensures rising { Rising (in_use result) }
+    {
+        RangeMap {
+            inner: Lent::new(slots),
+        }
+    }
+
+    // The entries in use, to read.
+    pub fn entries(&self) -> &[Entry<P>]
+        ensures as_they_lie { result.now ≡ in_use self.now }
+        ensures sizes_count_positions { SizesCountPositions result.now }
+        ensures runs_at_most { RunsAtMost (length result.now) result.now }
+    {
+        self.inner.entries()
+    }
+
+    // The index of the first entry that ends at the position or past it, where a walk begins.
+    pub fn index_of(&self, position: u64) -> usize
+        ensures place { result ≡ place position (in_use self.now) }
+    {
+        find(self.entries(), position)
+    }
+
+    // The number of entries in use.
+    pub fn count(&self) -> usize
+        ensures in_use { result ≡ length (in_use self.now) }
+    {
+        self.entries().len()
+    }
+
+    pub fn capacity(&self) -> usize
+        ensures all_slots { result ≡ slots_of self.now }
+    {
+        self.inner.slots.len()
+    }
+
+    // Whether every slot is used.
+    pub fn full(&self) -> bool
+        ensures every_slot_used { result ≡ nat_le (slots_of self.now) (length (in_use self.now)) }
+    {
+        self.capacity() <= self.count()
+    }
+
+    // The entry at an index, from 0.
+    pub fn entry(&self, i: usize) -> Option<Entry<P>>
+        ensures by_index { result ≡ nth i (in_use self.now) }
+    {
+        self.entries().get(i).copied()
+    }
+
+    // The entry that covers a position.
+    pub fn find(&self, position: u64) -> Option<Entry<P>>
+        ensures as_placed { result ≡ found position (in_use self.now) }
+        ensures in_plain_words { result ≡ at position (in_use self.now) }
+        ensures covering { Covering position (in_use self.now) result }
+    {
+        covering(self.entries(), position)
+    }
+
+    // The payload that a position has.
+    pub fn get(&self, position: u64) -> Option<P>
+        ensures as_placed { result ≡ payload_found position (in_use self.now) }
+        ensures in_plain_words { result ≡ payload_at position (in_use self.now) }
+    {
+        self.find(position).map(|e| e.payload)
+    }
+
+    // The first position of a range that an entry covers.
+    pub fn taken(&self, first: u64, last: u64) -> Option<u64>
+        ensures as_placed { result ≡ taken first last (in_use self.now) }
+        ensures in_plain_words { FirstTaken first last (in_use self.now) result }
+    {
+        first_taken(self.entries(), first, last)
+    }
+
+    // What `lay` would reply, with nothing changed.
+    pub fn check_lay(&self, first: u64, last: u64) -> Result<(), MapFault>
+        ensures reply { result ≡ lay_answer P.TABLE (slots_of self.now) first last (in_use self.now) }
+        ensures in_plain_words { result ≡ plain_lay P.TABLE (slots_of self.now) first last (in_use self.now) }
+    {
+        let slots = self.capacity();
+        judge_lay(self.entries(), slots, first, last)
+    }
+
+    // What `change` would reply, with nothing changed.
+    pub fn check_change(&self, first: u64, last: u64) -> Result<(), MapFault>
+        ensures reply { result ≡ change_answer P.TABLE (slots_of self.now) first last (in_use self.now) }
+        ensures in_plain_words { result ≡ plain_change P.TABLE (slots_of self.now) first last (in_use self.now) }
+        ensures cut_loses_nothing { CutLosesNothing (in_use self.now) }
+        ensures uncovered_means { bad first last ≡ false → FirstOpen first last (in_use self.now) (gap first last (in_use self.now)) }
+    {
+        let slots = self.capacity();
+        judge_change(self.entries(), slots, first, last)
+    }
+
+    // One entry more, in its place.
+    pub fn lay(&mut self, first: u64, last: u64, payload: P) -> Result<(), MapFault>
+        ensures reply { result ≡ lay_answer P.TABLE (slots_of self.old) first last (in_use self.old) }
+        ensures entries { in_use self.new ≡ (if is_ok result then laid (entry_of first last payload) (in_use self.old) else in_use self.old) }
+        ensures refusal_leaves_all { is_ok result ≡ false → self.new ≡ self.old }
+        ensures slots_stay { slots_of self.new ≡ slots_of self.old }
+        ensures keeps_rising { Rising (in_use self.new) }
+        ensures in_plain_words { PlainLay P.TABLE (slots_of self.old) first last payload (in_use self.old) result (in_use self.new) }
+    {
+        self.check_lay(first, last)?;
+        self.lay_checked(first, last, payload);
+        Ok(())
+    }
+
+    // Another payload for the positions of a range: cuts at its ends where they fall inside entries, both parts keeping the payload,
+    // then the new payload for every entry within.
+    pub fn change(&mut self, first: u64, last: u64, payload: P) -> Result<(), MapFault>
+        ensures reply { result ≡ change_answer P.TABLE (slots_of self.old) first last (in_use self.old) }
+        ensures entries { in_use self.new ≡ (if is_ok result then changed first last payload (in_use self.old) else in_use self.old) }
+        ensures refusal_leaves_all { is_ok result ≡ false → self.new ≡ self.old }
+        ensures slots_stay { slots_of self.new ≡ slots_of self.old }
+        ensures keeps_rising { Rising (in_use self.new) }
+        ensures in_plain_words { PlainChange P.TABLE (slots_of self.old) first last payload (in_use self.old) result (in_use self.new) }
+        ensures cut_loses_nothing { CutLosesNothing (in_use self.old) }
+    {
+        self.check_change(first, last)?;
+        self.change_checked(first, last, payload);
+        Ok(())
+    }
+
+    // Another payload for the entry at an index, in place: false where there is none.
+    pub fn repay(&mut self, i: usize, payload: P) -> bool
+        ensures present { result ≡ nat_lt i (length (in_use self.old)) }
+        ensures entries { in_use self.new ≡ repaid_at i payload (in_use self.old) }
+        ensures absence_leaves_all { result ≡ false → self.new ≡ self.old }
+        ensures slots_stay { slots_of self.new ≡ slots_of self.old }
+        ensures keeps_rising { Rising (in_use self.new) }
+        ensures in_plain_words { PlainRepay i payload (in_use self.old) (in_use self.new) }
+    {
+        if i >= self.count() {
+            return false;
+        }
+        self.repay_checked(i, payload);
+        true
+    }
+
+    fn lay_checked(&mut self, first: u64, last: u64, payload: P)
+        requires { Ok tt ≡ plain_lay P.TABLE (slots_of self.old) first last (in_use self.old) }
+        ensures entries { in_use self.new ≡ laid (entry_of first last payload) (in_use self.old) }
+        ensures slots_stay { slots_of self.new ≡ slots_of self.old }
+        ensures in_plain_words { PlainLay P.TABLE (slots_of self.old) first last payload (in_use self.old) (Ok tt) (in_use self.new) }
+    {
+        self.inner.lay(Entry {
+            first,
+            last,
+            payload,
+        });
+    }
+
+    fn change_checked(&mut self, first: u64, last: u64, payload: P)
+        requires { Ok tt ≡ plain_change P.TABLE (slots_of self.old) first last (in_use self.old) }
+        ensures entries { in_use self.new ≡ changed first last payload (in_use self.old) }
+        ensures slots_stay { slots_of self.new ≡ slots_of self.old }
+        ensures in_plain_words { PlainChange P.TABLE (slots_of self.old) first last payload (in_use self.old) (Ok tt) (in_use self.new) }
+    {
+        self.inner.change(first, last, payload);
+    }
+
+    fn repay_checked(&mut self, i: usize, payload: P)
+        requires { i < length (in_use self.old) }
+        ensures entries { in_use self.new ≡ repaid_at i payload (in_use self.old) }
+        ensures slots_stay { slots_of self.new ≡ slots_of self.old }
+        ensures in_plain_words { PlainRepay i payload (in_use self.old) (in_use self.new) }
+    {
+        self.inner.put(i, payload);
+    }
+}
