@@ -1,4 +1,4 @@
--- From the exact contracts of lay and change to what they mean at a rising map. Assumes nothing.
+-- What lay and change answer by the halving is what they answer in plain words; what one that is not refused may count on, and leaves. Assumes nothing.
 use Rattle.std.proofs.Common.{◌≡◌, ℕ, ◌+◌, ◌-◌, ◌^◌, ◌<◌, ◌≤◌, Bool, true, false, cond, ◌&&◌, ltb, leb, List, length, is_some, is_ok, Some, None, Ok, Option, sym, refl, ap, ◌∙◌, subst, ⊎_elim, arith}
 use Rattle.std.proofs.lemmas.Bool.{cases_Bool, ltb-false, leb-true, leb-false, and_parts, or_parts, cond-true, cond-false, false≢true}
 use Rattle.std.specs.Option.{option_map}

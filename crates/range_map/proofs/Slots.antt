@@ -1,17 +1,10 @@
 -- Entries by index, and what a map's slots say of its entries in use. Assumes nothing.
 use Rattle.std.proofs.Common.{◌≡◌, ℕ, zero, suc, ◌+◌, ◌≤◌, cond, List, [], ◌∷◌, length, get_or, take, set, IfSome, Some, None, Option, sym, refl, ap, ◌∙◌, arith, MatchOption}
 use Rattle.std.proofs.lemmas.Bool.Decides.{nat_tests}
-use Rattle.std.specs.List.{slice_get}
 use Rattle.range_map.specs.declared.entry.Entry.{Entry}
 use Rattle.range_map.specs.Laws.{PlainRepay}
 use Rattle.range_map.specs.Map.{nth, repaid_at}
 use Rattle.range_map.specs.Plain.{Between, at, payload_at, within}
-
-module _ {X : Type 0} where
-  pub nth_is : (m : List X) (i : ℕ) → nth i m ≡ slice_get m i
-  nth_is [] i = refl
-  nth_is (x ∷ m) zero = refl
-  nth_is (x ∷ m) (suc i) = nth_is m i
 
 module _ {P : Type 0} where
   pub put_is : (m : List (Entry P)) (i : ℕ) (e : Entry P) (p : P) → set m i (record { first = (get_or m i e).first; last = (get_or m i e).last; payload = p }) ≡ repaid_at i p m
@@ -34,11 +27,6 @@ module _ {P : Type 0} where
   take_repaid (suc used) [] i p = refl
   take_repaid (suc used) (x ∷ m) zero p = refl
   take_repaid (suc used) (x ∷ m) (suc i) p = ap (λ r. x ∷ r) (take_repaid used m i p)
-
-  pub length_repaid : (m : List (Entry P)) (i : ℕ) (p : P) → length (repaid_at i p m) ≡ length m
-  length_repaid [] i p = refl
-  length_repaid (x ∷ m) zero p = refl
-  length_repaid (x ∷ m) (suc i) p = ap suc (length_repaid m i p)
 
   pub between_repaid : (b h : ℕ) (m : List (Entry P)) (i : ℕ) (p : P) → Between b h m → Between b h (repaid_at i p m)
   between_repaid b h [] i p w = tt

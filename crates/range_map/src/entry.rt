@@ -5,6 +5,13 @@ ghost use Rattle.range_map.specs.Plain.{below, from};
 
 use figures::Table;
 
+// The positions from `first` to `last`, both included. There may be none: a call refuses such a range as bad.
+#[derive(Clone, Copy, PartialEq, Eq, Debug)]
+pub struct Span {
+    pub first: u64,
+    pub last: u64,
+}
+
 // The positions from `first` to `last`, both included, have this payload.
 #[derive(Clone, Copy, PartialEq, Eq, Debug)]
 pub struct Entry<P> {
@@ -21,14 +28,14 @@ impl<P: Copy> Entry<P> {
         self.last < position
     }
 
-    // Whether some of it may.
+    // Whether its first position does.
     pub(crate) fn begins_before(&self, position: u64) -> bool
         ensures { result ≡ nat_lt self.now.first position }
     {
         self.first < position
     }
 
-    // Where it begins from the position on.
+    // Its first position from the given one on.
     pub(crate) fn first_from(&self, position: u64) -> u64
         ensures { result ≡ max position self.now.first }
     {

@@ -4,7 +4,7 @@ ghost use Rattle.range_map.specs.Begun.{BeginBelow};
 ghost use Rattle.range_map.specs.Halving.{place};
 ghost use Rattle.range_map.specs.Plain.{Rising, at, cuts, cuts_of, gap, hit};
 
-use crate::entry::Entry;
+use crate::entry::{Entry, Span};
 
 pub(crate) fn find<P: Copy>(entries: &[Entry<P>], position: u64) -> usize
     requires { Rising entries.now }
@@ -23,30 +23,30 @@ pub(crate) fn covering<P: Copy>(entries: &[Entry<P>], position: u64) -> Option<E
     entries.get(i).copied().filter(|e| e.first <= position)
 }
 
-// The first position from `first` to `last` that an entry covers.
-pub(crate) fn first_taken<P: Copy>(entries: &[Entry<P>], first: u64, last: u64) -> Option<u64>
+// The first position of a range that an entry covers.
+pub(crate) fn first_taken<P: Copy>(entries: &[Entry<P>], range: Span) -> Option<u64>
     requires { Rising entries.now }
-    ensures { result ≡ hit first last entries.now }
+    ensures { result ≡ hit range.first range.last entries.now }
 {
-    let i = find(entries, first);
+    let i = find(entries, range.first);
     entries
         .get(i)
-        .map(|e| e.first_from(first))
-        .filter(|n| *n <= last)
+        .map(|e| e.first_from(range.first))
+        .filter(|n| *n <= range.last)
 }
 
-// The first position from `first` to `last` that no entry covers.
-pub(crate) fn first_uncovered<P: Copy>(entries: &[Entry<P>], first: u64, last: u64) -> Option<u64>
+// The first position of a range that no entry covers.
+pub(crate) fn first_uncovered<P: Copy>(entries: &[Entry<P>], range: Span) -> Option<u64>
     requires { Rising entries.now }
-    ensures { result ≡ gap first last entries.now }
+    ensures { result ≡ gap range.first range.last entries.now }
 {
-    let ahead = &entries[find(entries, first)..];
-    let mut wanted = first;
+    let ahead = &entries[find(entries, range.first)..];
+    let mut wanted = range.first;
     for e in ahead {
         if wanted < e.first {
             return Some(wanted);
         }
-        if e.last >= last {
+        if e.last >= range.last {
             return None;
         }
         wanted = e.last + 1;
@@ -73,12 +73,12 @@ fn splits<P: Copy>(entries: &[Entry<P>], n: u64) -> usize
     usize::from(entries.get(i).is_some_and(|e| e.begins_before(n)))
 }
 
-// How many entries a change of `first` to `last` adds: one for each end that falls inside an entry.
-pub(crate) fn count_cuts<P: Copy>(entries: &[Entry<P>], first: u64, last: u64) -> usize
+// How many entries a change of a range adds: one for each end that falls inside an entry.
+pub(crate) fn count_cuts<P: Copy>(entries: &[Entry<P>], range: Span) -> usize
     requires rising { Rising entries.now }
-    requires bound { last < 2 ^ 62 }
-    ensures cuts { result ≡ cuts_of first last entries.now }
+    requires bound { range.last < 2 ^ 62 }
+    ensures cuts { result ≡ cuts_of range.first range.last entries.now }
     ensures few { result ≤ 2 }
 {
-    splits(entries, first) + splits(entries, last + 1)
+    splits(entries, range.first) + splits(entries, range.last + 1)
 }

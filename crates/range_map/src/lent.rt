@@ -2,11 +2,12 @@
 ghost use Rattle.std.specs.Prelude.{◌≡◌, ◌+◌, ◌^◌, ◌<◌, ◌≤◌, length, map};
 ghost use Rattle.std.specs.List.{insert};
 ghost use Rattle.range_map.specs.Begun.{BeginBelow};
+ghost use Rattle.range_map.specs.Halving.{place};
 ghost use Rattle.range_map.specs.Lent.{LentSound, entries_in, slots_in};
 ghost use Rattle.range_map.specs.Map.{entry_of, repaid_at};
 ghost use Rattle.range_map.specs.Plain.{change, cut, cuts, cuts_of, lay, repaid};
 
-use crate::entry::Entry;
+use crate::entry::{Entry, Span};
 use crate::find::{begun, find};
 
 #[derive(Drop)]
@@ -28,6 +29,15 @@ impl<'a, P: Copy> Lent<'a, P> {
         ensures { result.now ≡ entries_in self.now }
     {
         &self.slots[..self.used]
+    }
+
+    // The index of the first entry that ends at the position or past it.
+    pub(crate) fn place_of(&self, position: u64) -> usize
+        requires sound { LentSound self.now }
+        ensures place { result ≡ place position (entries_in self.now) }
+        ensures within { result ≤ self.now.used }
+    {
+        find(self.entries(), position)
     }
 
     // One entry more, at index `i`: those from there on go one slot up.
@@ -52,7 +62,7 @@ impl<'a, P: Copy> Lent<'a, P> {
         ensures count { self.new.used ≡ self.old.used + 1 }
         ensures slots_stay { slots_in self.new ≡ slots_in self.old }
     {
-        let i = find(self.entries(), x.first);
+        let i = self.place_of(x.first);
         self.insert(i, x);
     }
 
@@ -64,7 +74,7 @@ impl<'a, P: Copy> Lent<'a, P> {
         ensures count { self.new.used ≡ self.old.used + cuts n (entries_in self.old) }
         ensures slots_stay { slots_in self.new ≡ slots_in self.old }
     {
-        let i = find(self.entries(), n);
+        let i = self.place_of(n);
         if i >= self.used {
             return;
         }
@@ -77,27 +87,27 @@ impl<'a, P: Copy> Lent<'a, P> {
     }
 
     // The indices, from the first to one past the last, of the entries that begin within a range.
-    fn begun_within(&self, first: u64, last: u64) -> (usize, usize)
+    fn begun_within(&self, range: Span) -> (usize, usize)
         requires sound { LentSound self.now }
-        requires bound { last < 2 ^ 62 }
-        ensures low { BeginBelow first (entries_in self.now) result.0 }
-        ensures high { BeginBelow (last + 1) (entries_in self.now) result.1 }
+        requires bound { range.last < 2 ^ 62 }
+        ensures low { BeginBelow range.first (entries_in self.now) result.0 }
+        ensures high { BeginBelow (range.last + 1) (entries_in self.now) result.1 }
         ensures within { (result.0 ≤ self.now.used) × (result.1 ≤ self.now.used) }
     {
         let entries = self.entries();
-        (begun(entries, first), begun(entries, last + 1))
+        (begun(entries, range.first), begun(entries, range.last + 1))
     }
 
     // The payload for these entries.
-    fn pay(&mut self, first: u64, last: u64, payload: P)
+    fn pay(&mut self, range: Span, payload: P)
         requires sound { LentSound self.old }
-        requires ordered { first ≤ last }
-        requires bound { last < 2 ^ 62 }
-        ensures after { entries_in self.new ≡ map (repaid first last payload) (entries_in self.old) }
+        requires ordered { range.first ≤ range.last }
+        requires bound { range.last < 2 ^ 62 }
+        ensures after { entries_in self.new ≡ map (repaid range.first range.last payload) (entries_in self.old) }
         ensures count { self.new.used ≡ self.old.used }
         ensures slots_stay { slots_in self.new ≡ slots_in self.old }
     {
-        let (low, high) = self.begun_within(first, last);
+        let (low, high) = self.begun_within(range);
         // By index: a proof knows nothing of what is written through `iter_mut`.
         for i in low..high {
             self.slots[i].payload = payload;
@@ -105,18 +115,18 @@ impl<'a, P: Copy> Lent<'a, P> {
     }
 
     // Both cuts, then the payload for what lies between.
-    pub(crate) fn change(&mut self, first: u64, last: u64, payload: P)
+    pub(crate) fn change(&mut self, range: Span, payload: P)
         requires sound { LentSound self.old }
-        requires ordered { first ≤ last }
-        requires bound { last < 2 ^ 62 }
-        requires room { self.old.used + cuts_of first last (entries_in self.old) ≤ slots_in self.old }
-        ensures after { entries_in self.new ≡ change first last payload (entries_in self.old) }
+        requires ordered { range.first ≤ range.last }
+        requires bound { range.last < 2 ^ 62 }
+        requires room { self.old.used + cuts_of range.first range.last (entries_in self.old) ≤ slots_in self.old }
+        ensures after { entries_in self.new ≡ change range.first range.last payload (entries_in self.old) }
         ensures fits { self.new.used ≤ slots_in self.new }
         ensures slots_stay { slots_in self.new ≡ slots_in self.old }
     {
-        self.cut(last + 1);
-        self.cut(first);
-        self.pay(first, last, payload);
+        self.cut(range.last + 1);
+        self.cut(range.first);
+        self.pay(range, payload);
     }
 
     // The payload of one entry, in place.

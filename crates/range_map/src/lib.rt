@@ -10,6 +10,6 @@ mod lent;
 mod map;
 mod operations;
 
-pub use entry::{Entry, Payload};
+pub use entry::{Entry, Payload, Span};
 pub use fault::{MapFault, Returned};
 pub use map::RangeMap;

@@ -1,5 +1,5 @@
-// The map over lent slots. Its meaning, for the contracts, is the list of its entries in use, `in_use`:
-// they rise, no two sharing a position. A count past the slots there is not.
+// The map over lent slots. Its meaning, for the contracts, is the list of its entries in use, `in_use`.
+// They rise, no two sharing a position, from `new` on and after every call.
 ghost use Rattle.std.specs.Prelude.{◌^◌, ◌≤◌};
 ghost use Rattle.range_map.specs.Lent.{entries_in, slots_in};
 ghost use Rattle.range_map.specs.Plain.{Between_prop, Rising};

@@ -8,9 +8,9 @@ ghost use Rattle.range_map.specs.Placed.{changed, found, laid, payload_found, ta
 ghost use Rattle.range_map.specs.Plain.{Rising, at, bad, gap, payload_at};
 ghost use Rattle.range_map.specs.Replies.{plain_change, plain_lay};
 
-use crate::entry::{Entry, Payload};
+use crate::entry::{Entry, Payload, Span};
 use crate::fault::MapFault;
-use crate::find::{covering, find, first_taken};
+use crate::find::{covering, first_taken};
 use crate::judge::{judge_change, judge_lay};
 use crate::lent::Lent;
 use crate::map::RangeMap;
@@ -40,7 +40,7 @@ impl<'a, P: Payload> RangeMap<'a, P> {
     pub fn index_of(&self, position: u64) -> usize
         ensures place { result ≡ place position (in_use self.now) }
     {
-        find(self.entries(), position)
+        self.inner.place_of(position)
     }
 
     // The number of entries in use.
@@ -88,60 +88,60 @@ impl<'a, P: Payload> RangeMap<'a, P> {
     }
 
     // The first position of a range that an entry covers.
-    pub fn taken(&self, first: u64, last: u64) -> Option<u64>
-        ensures as_placed { result ≡ taken first last (in_use self.now) }
-        ensures in_plain_words { FirstTaken first last (in_use self.now) result }
+    pub fn taken(&self, range: Span) -> Option<u64>
+        ensures as_placed { result ≡ taken range.first range.last (in_use self.now) }
+        ensures in_plain_words { FirstTaken range.first range.last (in_use self.now) result }
     {
-        first_taken(self.entries(), first, last)
+        first_taken(self.entries(), range)
     }
 
     // What `lay` would reply, with nothing changed.
-    pub fn check_lay(&self, first: u64, last: u64) -> Result<(), MapFault>
-        ensures reply { result ≡ lay_answer P.TABLE (slots_of self.now) first last (in_use self.now) }
-        ensures in_plain_words { result ≡ plain_lay P.TABLE (slots_of self.now) first last (in_use self.now) }
+    pub fn check_lay(&self, range: Span) -> Result<(), MapFault>
+        ensures reply { result ≡ lay_answer P.TABLE (slots_of self.now) range.first range.last (in_use self.now) }
+        ensures in_plain_words { result ≡ plain_lay P.TABLE (slots_of self.now) range.first range.last (in_use self.now) }
     {
         let slots = self.capacity();
-        judge_lay(self.entries(), slots, first, last)
+        judge_lay(self.entries(), slots, range)
     }
 
     // What `change` would reply, with nothing changed.
-    pub fn check_change(&self, first: u64, last: u64) -> Result<(), MapFault>
-        ensures reply { result ≡ change_answer P.TABLE (slots_of self.now) first last (in_use self.now) }
-        ensures in_plain_words { result ≡ plain_change P.TABLE (slots_of self.now) first last (in_use self.now) }
+    pub fn check_change(&self, range: Span) -> Result<(), MapFault>
+        ensures reply { result ≡ change_answer P.TABLE (slots_of self.now) range.first range.last (in_use self.now) }
+        ensures in_plain_words { result ≡ plain_change P.TABLE (slots_of self.now) range.first range.last (in_use self.now) }
         ensures cut_loses_nothing { CutLosesNothing (in_use self.now) }
-        ensures uncovered_means { bad first last ≡ false → FirstOpen first last (in_use self.now) (gap first last (in_use self.now)) }
+        ensures uncovered_means { bad range.first range.last ≡ false → FirstOpen range.first range.last (in_use self.now) (gap range.first range.last (in_use self.now)) }
     {
         let slots = self.capacity();
-        judge_change(self.entries(), slots, first, last)
+        judge_change(self.entries(), slots, range)
     }
 
     // One entry more, in its place.
-    pub fn lay(&mut self, first: u64, last: u64, payload: P) -> Result<(), MapFault>
-        ensures reply { result ≡ lay_answer P.TABLE (slots_of self.old) first last (in_use self.old) }
-        ensures entries { in_use self.new ≡ (if is_ok result then laid (entry_of first last payload) (in_use self.old) else in_use self.old) }
+    pub fn lay(&mut self, range: Span, payload: P) -> Result<(), MapFault>
+        ensures reply { result ≡ lay_answer P.TABLE (slots_of self.old) range.first range.last (in_use self.old) }
+        ensures entries { in_use self.new ≡ (if is_ok result then laid (entry_of range.first range.last payload) (in_use self.old) else in_use self.old) }
         ensures refusal_leaves_all { is_ok result ≡ false → self.new ≡ self.old }
         ensures slots_stay { slots_of self.new ≡ slots_of self.old }
         ensures keeps_rising { Rising (in_use self.new) }
-        ensures in_plain_words { PlainLay P.TABLE (slots_of self.old) first last payload (in_use self.old) result (in_use self.new) }
+        ensures in_plain_words { PlainLay P.TABLE (slots_of self.old) range.first range.last payload (in_use self.old) result (in_use self.new) }
     {
-        self.check_lay(first, last)?;
-        self.lay_checked(first, last, payload);
+        self.check_lay(range)?;
+        self.lay_checked(range, payload);
         Ok(())
     }
 
     // Another payload for the positions of a range: cuts at its ends where they fall inside entries, both parts keeping the payload,
     // then the new payload for every entry within.
-    pub fn change(&mut self, first: u64, last: u64, payload: P) -> Result<(), MapFault>
-        ensures reply { result ≡ change_answer P.TABLE (slots_of self.old) first last (in_use self.old) }
-        ensures entries { in_use self.new ≡ (if is_ok result then changed first last payload (in_use self.old) else in_use self.old) }
+    pub fn change(&mut self, range: Span, payload: P) -> Result<(), MapFault>
+        ensures reply { result ≡ change_answer P.TABLE (slots_of self.old) range.first range.last (in_use self.old) }
+        ensures entries { in_use self.new ≡ (if is_ok result then changed range.first range.last payload (in_use self.old) else in_use self.old) }
         ensures refusal_leaves_all { is_ok result ≡ false → self.new ≡ self.old }
         ensures slots_stay { slots_of self.new ≡ slots_of self.old }
         ensures keeps_rising { Rising (in_use self.new) }
-        ensures in_plain_words { PlainChange P.TABLE (slots_of self.old) first last payload (in_use self.old) result (in_use self.new) }
+        ensures in_plain_words { PlainChange P.TABLE (slots_of self.old) range.first range.last payload (in_use self.old) result (in_use self.new) }
         ensures cut_loses_nothing { CutLosesNothing (in_use self.old) }
     {
-        self.check_change(first, last)?;
-        self.change_checked(first, last, payload);
+        self.check_change(range)?;
+        self.change_checked(range, payload);
         Ok(())
     }
 
@@ -161,26 +161,27 @@ impl<'a, P: Payload> RangeMap<'a, P> {
         true
     }
 
-    fn lay_checked(&mut self, first: u64, last: u64, payload: P)
-        requires { Ok tt ≡ plain_lay P.TABLE (slots_of self.old) first last (in_use self.old) }
-        ensures entries { in_use self.new ≡ laid (entry_of first last payload) (in_use self.old) }
+    // What is left of a call once its check has passed.
+    fn lay_checked(&mut self, range: Span, payload: P)
+        requires { Ok tt ≡ plain_lay P.TABLE (slots_of self.old) range.first range.last (in_use self.old) }
+        ensures entries { in_use self.new ≡ laid (entry_of range.first range.last payload) (in_use self.old) }
         ensures slots_stay { slots_of self.new ≡ slots_of self.old }
-        ensures in_plain_words { PlainLay P.TABLE (slots_of self.old) first last payload (in_use self.old) (Ok tt) (in_use self.new) }
+        ensures in_plain_words { PlainLay P.TABLE (slots_of self.old) range.first range.last payload (in_use self.old) (Ok tt) (in_use self.new) }
     {
         self.inner.lay(Entry {
-            first,
-            last,
+            first: range.first,
+            last: range.last,
             payload,
         });
     }
 
-    fn change_checked(&mut self, first: u64, last: u64, payload: P)
-        requires { Ok tt ≡ plain_change P.TABLE (slots_of self.old) first last (in_use self.old) }
-        ensures entries { in_use self.new ≡ changed first last payload (in_use self.old) }
+    fn change_checked(&mut self, range: Span, payload: P)
+        requires { Ok tt ≡ plain_change P.TABLE (slots_of self.old) range.first range.last (in_use self.old) }
+        ensures entries { in_use self.new ≡ changed range.first range.last payload (in_use self.old) }
         ensures slots_stay { slots_of self.new ≡ slots_of self.old }
-        ensures in_plain_words { PlainChange P.TABLE (slots_of self.old) first last payload (in_use self.old) (Ok tt) (in_use self.new) }
+        ensures in_plain_words { PlainChange P.TABLE (slots_of self.old) range.first range.last payload (in_use self.old) (Ok tt) (in_use self.new) }
     {
-        self.inner.change(first, last, payload);
+        self.inner.change(range, payload);
     }
 
     fn repay_checked(&mut self, i: usize, payload: P)

@@ -1,7 +1,7 @@
 ghost use Rattle.figures.specs.declared.names.Table.TheVariants.{Standings};
 
 use figures::Table;
-use range_map::{Entry, MapFault, Payload, RangeMap};
+use range_map::{Entry, MapFault, Payload, RangeMap, Span};
 use std::test::Fail;
 
 #[derive(Clone, Copy, PartialEq, Eq, Debug)]
@@ -15,6 +15,10 @@ impl Payload for Mark {
 
 const LAST: u64 = (1 << 62) - 1;
 
+fn span(first: u64, last: u64) -> Span {
+    Span { first, last }
+}
+
 fn entry(first: u64, last: u64, mark: u8) -> Entry<Mark> {
     Entry {
         first,
@@ -27,8 +31,8 @@ fn entry(first: u64, last: u64, mark: u8) -> Entry<Mark> {
 fn cuts_at_both_ends_of_one_entry(rt: HostRuntime) -> Result<(), Fail> {
     let mut slots = [entry(9, 9, 9); 4];
     let mut map = RangeMap::new(&mut slots);
-    map.lay(1, 9, Mark(5))?;
-    map.change(4, 6, Mark(7))?;
+    map.lay(span(1, 9), Mark(5))?;
+    map.change(span(4, 6), Mark(7))?;
     assert_eq!(rt; map.count(), 3);
     assert_eq!(rt; map.entry(0), Some(entry(1, 3, 5)));
     assert_eq!(rt; map.entry(1), Some(entry(4, 6, 7)));
@@ -41,10 +45,10 @@ fn cuts_at_both_ends_of_one_entry(rt: HostRuntime) -> Result<(), Fail> {
 fn a_change_over_three_entries(rt: HostRuntime) -> Result<(), Fail> {
     let mut slots = [entry(0, 0, 0); 8];
     let mut map = RangeMap::new(&mut slots);
-    map.lay(20, 29, Mark(2))?;
-    map.lay(30, 39, Mark(3))?;
-    map.lay(10, 19, Mark(1))?;
-    map.change(15, 34, Mark(9))?;
+    map.lay(span(20, 29), Mark(2))?;
+    map.lay(span(30, 39), Mark(3))?;
+    map.lay(span(10, 19), Mark(1))?;
+    map.change(span(15, 34), Mark(9))?;
     assert_eq!(rt; map.count(), 5);
     assert_eq!(rt; map.get(14), Some(Mark(1)));
     assert_eq!(rt; map.get(15), Some(Mark(9)));
@@ -59,17 +63,20 @@ fn a_change_over_three_entries(rt: HostRuntime) -> Result<(), Fail> {
 fn gaps_are_nothing_and_refuse_a_change(rt: HostRuntime) -> Result<(), Fail> {
     let mut slots = [entry(0, 0, 0); 4];
     let mut map = RangeMap::new(&mut slots);
-    map.lay(1, 3, Mark(1))?;
-    map.lay(6, 8, Mark(2))?;
+    map.lay(span(1, 3), Mark(1))?;
+    map.lay(span(6, 8), Mark(2))?;
     assert_eq!(rt; map.find(0), None);
     assert_eq!(rt; map.get(4), None);
     assert_eq!(rt;
-        map.change(2, 7, Mark(9)),
+        map.change(span(2, 7), Mark(9)),
         Err(MapFault::Uncovered { first: 4 })
     );
-    assert_eq!(rt; map.lay(4, 9, Mark(9)), Err(MapFault::Taken { first: 6 }));
-    assert_eq!(rt; map.taken(2, 9), Some(2));
-    assert_eq!(rt; map.change(5, 4, Mark(9)), Err(MapFault::BadRange));
+    assert_eq!(rt;
+        map.lay(span(4, 9), Mark(9)),
+        Err(MapFault::Taken { first: 6 })
+    );
+    assert_eq!(rt; map.taken(span(2, 9)), Some(2));
+    assert_eq!(rt; map.change(span(5, 4), Mark(9)), Err(MapFault::BadRange));
     assert_eq!(rt; map.count(), 2);
     Ok(())
 }
@@ -78,19 +85,19 @@ fn gaps_are_nothing_and_refuse_a_change(rt: HostRuntime) -> Result<(), Fail> {
 fn full_tables_refuse_by_name(rt: HostRuntime) -> Result<(), Fail> {
     let mut slots = [entry(0, 0, 0); 2];
     let mut map = RangeMap::new(&mut slots);
-    map.lay(1, 3, Mark(1))?;
+    map.lay(span(1, 3), Mark(1))?;
     assert_eq!(rt;
-        map.change(2, 2, Mark(9)),
+        map.change(span(2, 2), Mark(9)),
         Err(MapFault::Full {
             table: Table::Standings,
         })
     );
     assert_eq!(rt; map.get(2), Some(Mark(1)));
-    map.change(1, 1, Mark(9))?;
+    map.change(span(1, 1), Mark(9))?;
     assert!(rt; map.full());
-    map.change(2, 3, Mark(8))?;
+    map.change(span(2, 3), Mark(8))?;
     assert_eq!(rt;
-        map.lay(4, 4, Mark(1)),
+        map.lay(span(4, 4), Mark(1)),
         Err(MapFault::Full {
             table: Table::Standings,
         })
@@ -105,10 +112,10 @@ fn full_tables_refuse_by_name(rt: HostRuntime) -> Result<(), Fail> {
 fn the_first_and_the_last_position(rt: HostRuntime) -> Result<(), Fail> {
     let mut slots = [entry(0, 0, 0); 4];
     let mut map = RangeMap::new(&mut slots);
-    assert_eq!(rt; map.check_lay(0, LAST + 1), Err(MapFault::BadRange));
-    map.lay(0, LAST, Mark(1))?;
-    map.change(0, 0, Mark(2))?;
-    map.change(LAST, LAST, Mark(3))?;
+    assert_eq!(rt; map.check_lay(span(0, LAST + 1)), Err(MapFault::BadRange));
+    map.lay(span(0, LAST), Mark(1))?;
+    map.change(span(0, 0), Mark(2))?;
+    map.change(span(LAST, LAST), Mark(3))?;
     assert_eq!(rt; map.get(0), Some(Mark(2)));
     assert_eq!(rt; map.get(1), Some(Mark(1)));
     assert_eq!(rt; map.get(LAST), Some(Mark(3)));

@@ -8,8 +8,8 @@ use Rattle.range_map.proofs.find.first_taken.Goals as goal
 pub returns : goal.returns
 returns g c =
     let m = c.args.entries.now in
-    let f = c.args.first in
-    let l = c.args.last in
+    let f = c.args.range.first in
+    let l = c.args.range.last in
     filtered (λ k. leb k l) _ c.map.result _ (λ k b h. search rules) c.filter.ensures
     ∙ ap (option_and_then _) (mapped (λ e. max f e.first) _ c.get.result _ (λ e k h. search rules) c.map.ensures.cases)
     ∙ met f l _ ∙ ap (option_and_then (meeting f l)) (got m _ c.get.result c.get.ensures.lookup)

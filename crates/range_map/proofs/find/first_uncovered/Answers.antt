@@ -8,8 +8,8 @@ use Rattle.range_map.proofs.find.first_uncovered.Goals as goal
 pub loop-e-init : goal.loop-e-init
 loop-e-init g c =
     let m = c.args.entries.now in
-    let f = c.args.first in
-    let l = c.args.last in
+    let f = c.args.range.first in
+    let l = c.args.range.last in
     let k = c.find.result in
     let stop = c.find.ensures.place in
     record {
@@ -23,18 +23,18 @@ returns-then-wanted-e g c =
     let reach = reached _ m _ _ c.loop-e-test.true c.e-item.is c.loop-e.invariant.reach in
     sym (walk_open _ _ m _ _ c.loop-e-test.true c.e-item.is reach c.if-wanted-e.true) ∙ c.loop-e.invariant.left
 
-pub returns-then-e-last : goal.returns-then-e-last
-returns-then-e-last g c =
+pub returns-then-e-range : goal.returns-then-e-range
+returns-then-e-range g c =
     let m = take (length c.args.entries.now - c.find.result) (drop c.find.result c.args.entries.now) in
     let reach = reached _ m _ _ c.loop-e-test.true c.e-item.is c.loop-e.invariant.reach in
-    sym (walk_covered _ _ m _ _ c.loop-e-test.true c.e-item.is reach c.if-wanted-e.false c.if-e-last.true) ∙ c.loop-e.invariant.left
+    sym (walk_covered _ _ m _ _ c.loop-e-test.true c.e-item.is reach c.if-wanted-e.false c.if-e-range.true) ∙ c.loop-e.invariant.left
 
 pub loop-e-preserved : goal.loop-e-preserved
 loop-e-preserved g c =
     let m = take (length c.args.entries.now - c.find.result) (drop c.find.result c.args.entries.now) in
     let reach = reached _ m _ _ c.loop-e-test.true c.e-item.is c.loop-e.invariant.reach in
     record {
-      left = sym (walk_on _ _ m _ _ c.loop-e-test.true c.e-item.is reach c.if-wanted-e.false c.if-e-last.false) ∙ c.loop-e.invariant.left;
+      left = sym (walk_on _ _ m _ _ c.loop-e-test.true c.e-item.is reach c.if-wanted-e.false c.if-e-range.false) ∙ c.loop-e.invariant.left;
       reach = ahead_next _ m _ _ c.loop-e-test.true c.e-item.is c.loop-e.invariant.reach;
     }
 

@@ -5,6 +5,6 @@ use Rattle.range_map.proofs.find.first_uncovered.Given as goal
 
 abbrev pub invariant-loop-e : goal.invariant-loop-e
 invariant-loop-e g l = record {
-  left : gap l.wanted l.last (drop l.e-index l.ahead) ≡ gap l.first l.last l.entries;
+  left : gap l.wanted l.range.last (drop l.e-index l.ahead) ≡ gap l.range.first l.range.last l.entries;
   reach : Ahead l.wanted (drop l.e-index l.ahead);
 }

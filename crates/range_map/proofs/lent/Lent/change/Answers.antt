@@ -12,8 +12,8 @@ pub cut-requires-2 : goal.cut-requires-2
 unfolding cuts_of
 cut-requires-2 g c =
     let m = entries_in c.args.self.now in
-    let f = c.args.first in
-    let l = c.args.last in
+    let f = c.args.range.first in
+    let l = c.args.range.last in
     record {
       sound = record {
         fits = omega (arith, c.requires.room, c.cut.ensures.count, c.cut.ensures.slots_stay);
@@ -26,8 +26,8 @@ pub pay-requires : goal.pay-requires
 unfolding cuts_of
 pay-requires g c =
     let m = entries_in c.args.self.now in
-    let f = c.args.first in
-    let l = c.args.last in
+    let f = c.args.range.first in
+    let l = c.args.range.last in
     let once = between_cut (l + 1) 0 (2 ^ 62) m c.requires.sound.rising in
     record {
       sound = record {
@@ -42,8 +42,8 @@ pub returns : goal.returns
 unfolding change cuts_of
 returns g c =
     let m = entries_in c.args.self.now in
-    let f = c.args.first in
-    let l = c.args.last in
+    let f = c.args.range.first in
+    let l = c.args.range.last in
     record {
       after = c.pay.ensures.after ∙ ap (map (repaid f l c.args.payload)) (c.cut-2.ensures.after ∙ ap (cut f) c.cut.ensures.after);
       fits = omega (arith, c.requires.room, c.cut.ensures.count, c.cut.ensures.slots_stay, c.cut-2.ensures.count, c.cut-2.ensures.slots_stay, c.pay.ensures.count, c.pay.ensures.slots_stay, ap (cuts f) c.cut.ensures.after, cuts_cut f l m c.requires.ordered);

@@ -1,10 +1,8 @@
-use Rattle.std.proofs.Common.{◌^◌, ap, ◌∙◌}
-use Rattle.range_map.specs.Halving.{place}
+use Rattle.std.proofs.Common.{◌^◌, ◌∙◌}
 use Rattle.range_map.specs.Lent.{entries_in}
 use Rattle.range_map.proofs.Joining.{lay_here}
 use Rattle.range_map.proofs.lent.Lent.lay.Goals as goal
 
 pub returns-clause-after : goal.returns-clause-after
 returns-clause-after g c =
-    let place_is = c.find-i.ensures.place ∙ ap (place c.args.x.first) c.entries.ensures in
-    c.insert.ensures.after ∙ lay_here 0 (2 ^ 62) (entries_in c.args.self.now) c.requires.sound.rising c.args.x _ place_is
+    c.insert.ensures.after ∙ lay_here 0 (2 ^ 62) (entries_in c.args.self.now) c.requires.sound.rising c.args.x _ c.place_of-i.ensures.place

@@ -11,7 +11,7 @@ loop-i-init g c =
     record {
       count = refl;
       slots_stay = refl;
-      paid = pay_start c.args.first c.args.last c.args.payload (entries_in s) _ (omega arith) c.begun_within-low.ensures.low;
+      paid = pay_start c.args.range.first c.args.range.last c.args.payload (entries_in s) _ (omega arith) c.begun_within-low.ensures.low;
     }
 
 pub loop-i-preserved : goal.loop-i-preserved
@@ -22,13 +22,13 @@ loop-i-preserved g c =
     record {
       count = kept.count;
       slots_stay = length-set _ _ _ ∙ kept.slots_stay;
-      paid = pay_turn c.args.first c.args.last c.args.payload (entries_in s) c.loop-i.self.slots.now c.loop-i.self.used c.loop-i.i _ _ c.index-self-i.result (omega arith) (omega arith) (omega arith) kept.paid c.begun_within-low.ensures.low c.begun_within-low.ensures.high c.loop-i.auto.i c.loop-i-test.true;
+      paid = pay_turn c.args.range.first c.args.range.last c.args.payload (entries_in s) c.loop-i.self.slots.now c.loop-i.self.used c.loop-i.i _ _ c.index-self-i.result (omega arith) (omega arith) (omega arith) kept.paid c.begun_within-low.ensures.low c.begun_within-low.ensures.high c.loop-i.auto.i c.loop-i-test.true;
     }
 
 pub returns-clause-after : goal.returns-clause-after
 returns-clause-after g c =
-    let f = c.args.first in
-    let l = c.args.last in
+    let f = c.args.range.first in
+    let l = c.args.range.last in
     let p = c.args.payload in
     let s = c.args.self.now in
     let long = length-take-le s.used s.slots.now c.requires.sound.fits in

@@ -7,5 +7,5 @@ abbrev pub invariant-loop-i : goal.invariant-loop-i
 invariant-loop-i g l = record {
   count : l.self.used ≡ l.fn.self.used;
   slots_stay : slots_in l.self ≡ slots_in l.fn.self;
-  paid : entries_in l.self ≡ paid_below l.fn.first l.fn.last l.payload l.i (entries_in l.fn.self);
+  paid : entries_in l.self ≡ paid_below l.fn.range.first l.fn.range.last l.payload l.i (entries_in l.fn.self);
 }

@@ -13,8 +13,8 @@ judge_change-requires-clause-fits g c =
 
 pub returns : goal.returns
 returns g c =
-    let f = c.args.first in
-    let l = c.args.last in
+    let f = c.args.range.first in
+    let l = c.args.range.last in
     let t = g.P.Payload.TABLE in
     let s = c.args.self.now in
     let slots = c.capacity-slots.ensures.all_slots in

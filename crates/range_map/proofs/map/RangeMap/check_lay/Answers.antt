@@ -6,8 +6,8 @@ use Rattle.range_map.proofs.map.RangeMap.check_lay.Goals as goal
 
 pub returns : goal.returns
 returns g c =
-    let f = c.args.first in
-    let l = c.args.last in
+    let f = c.args.range.first in
+    let l = c.args.range.last in
     let t = g.P.Payload.TABLE in
     let s = c.args.self.now in
     let slots = c.capacity-slots.ensures.all_slots in

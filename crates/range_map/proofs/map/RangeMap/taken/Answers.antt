@@ -8,8 +8,8 @@ use Rattle.range_map.proofs.map.RangeMap.taken.Goals as goal
 
 pub returns : goal.returns
 returns g c =
-    let f = c.args.first in
-    let l = c.args.last in
+    let f = c.args.range.first in
+    let l = c.args.range.last in
     let m = in_use c.args.self.now in
     let w = c.args.self.now.rising in
     let is = c.first_taken.ensures ∙ ap (hit f l) c.entries.ensures.as_they_lie in
