@@ -1,4 +1,4 @@
-use Rattle.std.proofs.Common.{◌≡◌, Option, Result, sym, ap, ◌∙◌}
+use Rattle.std.proofs.Common.{Result, sym, ap, ◌∙◌}
 use Rattle.std.proofs.lemmas.Result.{err_from_is_err_and}
 use Rattle.figures.specs.declared.names.Table.TheVariants.{Standings}
 use Rattle.range_map.specs.Map.{change_answer, in_use, slots_of}
