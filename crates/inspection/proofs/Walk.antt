@@ -1,60 +1,52 @@
 -- A walk through a file, order by order. Assumes nothing.
-use Rattle.std.proofs.Common.{◌≡◌, ℕ, zero, suc, ◌+◌, ◌-◌, ◌<◌, ◌≤◌, ltb, List, [], ◌∷◌, ◌++◌, length, Option, sym, refl, ap, ◌∙◌, add-zero, add_assoc, arith}
-use Rattle.std.proofs.lemmas.List.{append_assoc}
-use Rattle.std.proofs.lemmas.Bool.{lt-ltb, le-ltb, cond-true, cond-false}
+use Rattle.std.proofs.Common.{◌≡◌, ℕ, zero, suc, ◌+◌, ◌-◌, ◌≤◌, ◌⊎◌, inl, inr, List, [], ◌∷◌, ◌++◌, length, Some, None, Option, Result, sym, refl, ap, ◌∙◌, arith}
+use Rattle.order_file.specs.declared.orders.Order.{Order}
 use Rattle.report.specs.Lines.{lawful_line}
-use Rattle.inspection.specs.Findings.{found, place_after, refusal_of, lawful_in}
-use Rattle.inspection.specs.Files.{findings_from, refusal_line, line_of, refused_lines, lawful_count}
+use Rattle.inspection.specs.Findings.{found}
+use Rattle.inspection.specs.Files.{findings_from, refused_lines, lawful_count}
 use Rattle.inspection.specs.declared.findings.Finding.{Finding}
-use Rattle.inspection.specs.declared.findings.Finding.TheVariants.{End, Lawful, Refused, Unreadable}
+use Rattle.inspection.specs.declared.refusals.Refusal.{Refusal}
+use Rattle.inspection.proofs.Found.{found_past, found_onward}
+
+none_more : (most : ℕ) (file : List ℕ) (place : ℕ) → found file place ≡ None → findings_from most file place ≡ []
+unfolding findings_from
+none_more zero file place none = refl
+none_more (suc most) file place none = rw (none, findings_from) refl
+
+one_more : (most : ℕ) (file : List ℕ) (place : ℕ) (finding : Finding) → found file place ≡ Some finding → findings_from (suc most) file place ≡ (place, finding.order) ∷ findings_from most file finding.next
+unfolding findings_from
+one_more most file place finding is = rw (is, findings_from) refl
+
+some_or_none : (o : Option Finding) → (o ≡ None) ⊎ ((finding : Finding) × (o ≡ Some finding))
+some_or_none None = inl refl
+some_or_none (Some finding) = inr (finding, refl)
+
+-- as many turns as there are bytes left are enough
+enough : (most more : ℕ) (file : List ℕ) (place : ℕ) → length file ≤ place + most → most ≤ more → findings_from most file place ≡ findings_from more file place
+enough zero more file place far wide =
+    let none = sym (found_past file place (omega arith)) in
+    none_more zero file place none ∙ sym (none_more more file place none)
+enough (suc most) zero file place far wide = absurd (omega arith)
+enough (suc most) (suc more) file place far wide = elim (some_or_none (found file place)) [
+  | inl none ↦ none_more (suc most) file place none ∙ sym (none_more (suc more) file place none)
+  | inr (finding, is) ↦
+      one_more most file place finding is
+      ∙ ap (λ orders. (place, finding.order) ∷ orders) (enough most more file finding.next (omega (arith, found_onward file place finding is)) (omega arith))
+      ∙ sym (one_more more file place finding is)
+]
+
+pub none_left : (file : List ℕ) (place : ℕ) → found file place ≡ None → findings_from (length file - place) file place ≡ []
+none_left file place none = none_more (length file - place) file place none
+
+pub one_left : (file : List ℕ) (place : ℕ) (finding : Finding) → found file place ≡ Some finding → findings_from (length file - place) file place ≡ (place, finding.order) ∷ findings_from (length file - finding.next) file finding.next
+one_left file place finding is =
+    let onward = found_onward file place finding is in
+    let most = length file - (place + 1) in
+    let turns : length file - place ≡ suc most = omega (arith, onward.0) in
+    ap (λ k. findings_from k file place) turns
+    ∙ one_more most file place finding is
+    ∙ ap (λ orders. (place, finding.order) ∷ orders) (sym (enough (length file - finding.next) most file finding.next (omega arith) (omega (arith, onward.1))))
 
 -- what is still to print, with this many orders behind and this many of them lawful
-abbrev pub left : ℕ → ℕ → List (ℕ × Finding) → List ℕ
+abbrev pub left : ℕ → ℕ → List (ℕ × Result Order Refusal) → List ℕ
 left index lawful orders = refused_lines index orders ++ lawful_line (lawful + lawful_count orders)
-
--- one order more
-left_order : (index lawful place : ℕ) (finding : Finding) (orders : List (ℕ × Finding)) → left index lawful ((place, finding) ∷ orders) ≡ line_of index place finding ++ left (index + 1) (lawful + lawful_in finding) orders
-left_order index lawful place finding orders =
-    append_assoc (line_of index place finding) (refused_lines (index + 1) orders) (lawful_line (lawful + (lawful_in finding + lawful_count orders)))
-    ∙ ap (λ n. line_of index place finding ++ (refused_lines (index + 1) orders ++ lawful_line n)) (sym (add_assoc lawful (lawful_in finding) (lawful_count orders)))
-
-more_orders : (most : ℕ) (file : List ℕ) (place : ℕ) → place < length file → findings_from (suc most) file place ≡ (place, found file place) ∷ findings_from most file (place_after (length file) (found file place))
-unfolding findings_from
-more_orders most file place within = cond-true (ltb place (length file)) _ _ (lt-ltb place (length file) within)
-
-pub no_orders : (most : ℕ) (file : List ℕ) (place : ℕ) → length file ≤ place → findings_from most file place ≡ []
-unfolding findings_from
-no_orders zero file place past = refl
-no_orders (suc most) file place past = cond-false (ltb place (length file)) _ _ (le-ltb place (length file) past)
-
--- what is out and what is left make the whole, before an order and after it
-walk_on : (file before after whole : List ℕ) (index lawful place : ℕ) → index ≤ place → place < length file → before ++ left index lawful (findings_from (length file - index) file place) ≡ whole → after ≡ before ++ line_of index place (found file place) → after ++ left (index + 1) (lawful + lawful_in (found file place)) (findings_from (length file - (index + 1)) file (place_after (length file) (found file place))) ≡ whole
-walk_on file before after whole index lawful place behind within so grown =
-    let most = length file - (index + 1) in
-    let turns : length file - index ≡ suc most = omega arith in
-    let orders = ap (λ k. findings_from k file place) turns ∙ more_orders most file place within in
-    let step = ap (left index lawful) orders ∙ left_order index lawful place (found file place) (findings_from most file (place_after (length file) (found file place))) in
-    let joined = append_assoc before (line_of index place (found file place)) (left (index + 1) (lawful + lawful_in (found file place)) (findings_from most file (place_after (length file) (found file place)))) in
-    ap (λ xs. xs ++ left (index + 1) (lawful + lawful_in (found file place)) (findings_from most file (place_after (length file) (found file place)))) grown ∙ joined ∙ sym (ap (λ xs. before ++ xs) step) ∙ so
-
--- the same of the order's parts as the loop has them
-pub walk_step : (file before after whole : List ℕ) (index lawful place : ℕ) (finding : Finding) (refusal : Option ℕ) (count next : ℕ) → index ≤ place → place < length file → before ++ left index lawful (findings_from (length file - index) file place) ≡ whole → finding ≡ found file place → refusal ≡ refusal_of finding → count ≡ lawful_in finding → next ≡ place_after (length file) finding → after ≡ before ++ refusal_line index place refusal → after ++ left (index + 1) (lawful + count) (findings_from (length file - (index + 1)) file next) ≡ whole
-walk_step file before after whole index lawful place finding refusal count next behind within so is numbered counted onward grown =
-    let on = walk_on file before (before ++ line_of index place (found file place)) whole index lawful place behind within so refl in
-    cc
-
--- at the end the count is left
-pub walked : (file before after whole : List ℕ) (index lawful place : ℕ) → length file ≤ place → before ++ left index lawful (findings_from (length file - index) file place) ≡ whole → after ≡ before ++ lawful_line lawful → after ≡ whole
-walked file before after whole index lawful place past so grown =
-    let none = ap (left index lawful) (no_orders (length file - index) file place past) in
-    let count = ap lawful_line (add-zero lawful) in
-    grown ∙ sym (ap (λ xs. before ++ xs) (none ∙ count)) ∙ so
-
-lawful_at_most_one : (finding : Finding) → lawful_in finding ≤ 1
-lawful_at_most_one End = omega arith
-lawful_at_most_one (Lawful next) = omega arith
-lawful_at_most_one (Refused fault next) = omega arith
-lawful_at_most_one (Unreadable fault) = omega arith
-
-pub at_most_one : (finding : Finding) (count : ℕ) → count ≡ lawful_in finding → count ≤ 1
-at_most_one finding count is = omega (arith, lawful_at_most_one finding)

@@ -1,2 +1,3 @@
 pub mod Files
 pub mod Findings
+pub mod Orders

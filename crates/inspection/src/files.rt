@@ -1,40 +1,25 @@
 // A whole order file, and what is printed of it.
-ghost use Rattle.std.specs.Prelude.{◌≡◌, ◌++◌, is_ok, IfOk, if◌then◌else◌};
-ghost use Rattle.inspection.specs.Files.{refusal_line, findings, printed, inspection};
+ghost use Rattle.std.specs.Prelude.{◌≡◌, IfOk};
+ghost use Rattle.inspection.specs.Files.{findings, printed, inspection};
 
-use crate::step::inspect_order;
+use crate::orders::Orders;
 use figures::MAX_FILE_BYTES;
 use report::{lawful_line, refused_line, too_long_line};
 use std::alloc::{AllocError, Global};
-
-// The line of an order that came back; of any other nothing.
-fn print_refusal(
-    out: &mut Vec<u8>,
-    index: u64,
-    place: usize,
-    refusal: Option<u8>,
-) -> Result<(), AllocError>
-    ensures line { out.new.items ≡ (if is_ok result then out.old.items ++ refusal_line index place refusal else out.old.items) }
-{
-    let Some(number) = refusal else {
-        return Ok(());
-    };
-    out.extend_from_slice(&refused_line(index, place as u64, number))
-}
 
 fn inspect_orders(heap: Global, file: &[u8]) -> Result<Vec<u8>, AllocError>
     ensures printed { IfOk result (λ out. out.items ≡ printed (findings file.now)) }
 {
     let mut out = Vec::new(heap);
-    let mut place = 0;
-    let mut index = 0;
     let mut lawful = 0;
-    while place < file.len() {
-        let finding = inspect_order(file, place);
-        print_refusal(&mut out, index, place, finding.refusal())?;
-        index += 1;
-        lawful += finding.lawful_orders();
-        place = finding.place_after(file.len());
+    for (index, (place, order)) in Orders::of(file).enumerate() {
+        match order {
+            Ok(_) => lawful += 1,
+            Err(refusal) => {
+                let line = refused_line(index as u64, place as u64, refusal.number());
+                out.extend_from_slice(&line)?;
+            }
+        }
     }
     out.extend_from_slice(&lawful_line(lawful))?;
     Ok(out)
@@ -44,10 +29,8 @@ fn inspect_orders(heap: Global, file: &[u8]) -> Result<Vec<u8>, AllocError>
 pub fn inspect_file(heap: Global, file: &[u8]) -> Result<Vec<u8>, AllocError>
     ensures printed { IfOk result (λ out. out.items ≡ inspection file.now) }
 {
-    if file.len() <= MAX_FILE_BYTES {
-        return inspect_orders(heap, file);
+    if file.len() > MAX_FILE_BYTES {
+        return Ok(Vec::from_array(heap, too_long_line())?);
     }
-    let mut out = Vec::new(heap);
-    out.extend_from_slice(&too_long_line())?;
-    Ok(out)
+    inspect_orders(heap, file)
 }

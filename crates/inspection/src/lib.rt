@@ -3,8 +3,11 @@
 
 mod files;
 mod findings;
+mod orders;
+mod refusals;
 mod step;
 
 pub use files::inspect_file;
 pub use findings::Finding;
+pub use refusals::Refusal;
 pub use step::inspect_order;

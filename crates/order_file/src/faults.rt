@@ -15,6 +15,7 @@ pub struct OperandFault {
     pub distance: usize,
 }
 
+// The numbers are methods and no `From`: `u8::from(fault)` would not say what of the fault it is.
 impl ReadFault {
     pub fn number(&self) -> u8
         ensures number { result ≡ read_number self.now }

@@ -143,13 +143,18 @@ impl From<[u8; 48]> for Cancel {
     }
 }
 
-// What the first bytes write, and the bytes after them, if there are as many.
-fn split<O: From<[u8; W]>, const W: usize>(bytes: &[u8]) -> Option<(O, &[u8])>
+// The order that the first bytes write, and the bytes after them, if there are as many. No array is
+// wider than `width` says.
+fn split<O: From<[u8; W]>, F: FnOnce(O) -> Order, const W: usize>(
+    bytes: &[u8],
+    order: F,
+) -> Option<(Order, &[u8])>
     requires width { W < 2 ^ 63 }
-    ensures front { MatchOption result (length bytes.now < W) (λ read. (W ≤ length bytes.now) × O.from_gives (take W bytes.now) read.0 × (read.1.now ≡ drop W bytes.now)) }
+    requires callable { F.IsAlwaysCallable order }
+    ensures front { MatchOption result (length bytes.now < W) (λ read. (W ≤ length bytes.now) × ((operands : O) × O.from_gives (take W bytes.now) operands × F.post order operands read.0) × (read.1.now ≡ drop W bytes.now)) }
 {
     let (operands, after) = bytes.split_first_chunk()?;
-    Some((O::from(*operands), after))
+    Some((order(O::from(*operands)), after))
 }
 
 // The order of this kind that stands just after its command byte, and the bytes after it, if all of
@@ -158,13 +163,13 @@ pub(crate) fn split_order(kind: Kind, bytes: &[u8]) -> Option<(Order, &[u8])>
     ensures order { MatchOption result (length bytes.now < width_of kind) (λ read. (width_of kind ≤ length bytes.now) × (read.0 ≡ order_of kind (take (width_of kind) bytes.now)) × (read.1.now ≡ drop (width_of kind) bytes.now)) }
 {
     match kind {
-        Kind::Account => split(bytes).map(|(order, after)| (Order::Account(order), after)),
-        Kind::Device => split(bytes).map(|(order, after)| (Order::Device(order), after)),
-        Kind::Day => split(bytes).map(|(order, after)| (Order::Day(order), after)),
-        Kind::Declare => split(bytes).map(|(order, after)| (Order::Declare(order), after)),
-        Kind::Offer => split(bytes).map(|(order, after)| (Order::Offer(order), after)),
-        Kind::Accept => split(bytes).map(|(order, after)| (Order::Accept(order), after)),
-        Kind::Recall => split(bytes).map(|(order, after)| (Order::Recall(order), after)),
-        Kind::Cancel => split(bytes).map(|(order, after)| (Order::Cancel(order), after)),
+        Kind::Account => split(bytes, Order::Account),
+        Kind::Device => split(bytes, Order::Device),
+        Kind::Day => split(bytes, Order::Day),
+        Kind::Declare => split(bytes, Order::Declare),
+        Kind::Offer => split(bytes, Order::Offer),
+        Kind::Accept => split(bytes, Order::Accept),
+        Kind::Recall => split(bytes, Order::Recall),
+        Kind::Cancel => split(bytes, Order::Cancel),
     }
 }

@@ -46,6 +46,7 @@ pub struct AcceptOffer {
     pub offer: u32,
 }
 
+// The operands of an acceptance, in a type of its own, so that no call takes one for the other.
 #[derive(Clone, Copy, PartialEq, Eq, Debug)]
 pub struct RecallOffer {
     pub account: AccountOperand,

@@ -31,14 +31,9 @@ fn an_unknown_command(rt: HostRuntime) {
 fn a_file_cut_at_every_length(rt: HostRuntime) {
     for length in 0..EVERY_KIND.len() {
         let cut = walk_through(&EVERY_KIND[0..length]);
-        let mut whole = 0usize;
-        let mut place = 0usize;
-        for end in ENDS {
-            if end <= length {
-                whole = whole.saturating_add(1);
-                place = end;
-            }
-        }
+        let behind = &ENDS[..ENDS.partition_point(|end| *end <= length)];
+        let whole = behind.len();
+        let place = behind.last().copied().unwrap_or(0);
         assert_eq!(rt; cut.read, whole);
         assert_eq!(rt; cut.lawful, whole);
         assert_eq!(rt; cut.end, ReadFault::CutShort { place });

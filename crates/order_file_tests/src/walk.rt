@@ -2,7 +2,7 @@
 use order_file::{NumberRange, Order, ReadFault, read_order};
 
 // How many orders could be read, how many of them were lawful, and the refusal that ended the walk.
-#[derive(Clone, Copy)]
+#[derive(Clone, Copy, PartialEq, Eq, Debug)]
 pub struct Walk {
     pub read: usize,
     pub lawful: usize,
@@ -18,9 +18,7 @@ pub(crate) fn walk_through(file: &[u8]) -> Walk {
         match read_order(rest, place) {
             Ok((order, after)) => {
                 read = read.saturating_add(1);
-                if order.check().is_ok() {
-                    lawful = lawful.saturating_add(1);
-                }
+                lawful = lawful.saturating_add(usize::from(order.check().is_ok()));
                 rest = after;
             }
             Err(end) => return Walk { read, lawful, end },
@@ -30,10 +28,7 @@ pub(crate) fn walk_through(file: &[u8]) -> Walk {
 
 // The distance at which an order is refused; 0 if it is lawful.
 pub(crate) fn refused_distance(order: Order) -> usize {
-    match order.check() {
-        Ok(()) => 0,
-        Err(fault) => fault.distance,
-    }
+    order.check().err().map_or(0, |fault| fault.distance)
 }
 
 // The range's own limits keep this from overflowing.

@@ -1,6 +1,6 @@
 -- Laws of printed digits. Assumes nothing.
 use Rattle.std.proofs.Common.{◌≡◌, ℕ, ◌+◌, ◌-◌, ◌/◌, ◌%◌, ◌<◌, ◌≤◌, List, [], ◌∷◌, ◌++◌, map, length, drop, set, sym, refl, ap, ◌∙◌, add-one, arith}
-use Rattle.std.proofs.lemmas.List.{append_assoc, append-nil, drop_all, drop-set, length-map, map_push}
+use Rattle.std.proofs.lemmas.List.{append_assoc, drop-set, length-map, map_push}
 use Rattle.figures.specs.Digits.{written}
 use Rattle.figures.proofs.Weights.{length_written}
 use Rattle.report.specs.Digits.{digits}
@@ -17,10 +17,6 @@ digits_none n = refl
 pub digits_more : (k n : ℕ) → digits (k + 1) n ≡ digits k (n / 10) ++ ((48 + n % 10) ∷ [])
 unfolding digits
 digits_more k n = ap (λ j. map (λ d. 48 + d) (written j n)) (add-one k) ∙ map_push (λ d. 48 + d) (written k (n / 10)) (n % 10)
-
--- nothing is in place yet
-pub digits_begin : (out : List ℕ) (n : ℕ) → digits (length out) n ++ drop (length out) out ≡ digits (length out) n
-digits_begin out n = ap (λ xs. digits (length out) n ++ xs) (drop_all (length out) out (omega arith)) ∙ append-nil (digits (length out) n)
 
 -- the digits from p + 1 on are in place, and one more at p
 digit_at : (out : List ℕ) (rest p byte : ℕ) → p < length out → byte ≡ 48 + rest % 10 → digits p (rest / 10) ++ drop p (set out p byte) ≡ digits (p + 1) rest ++ drop (p + 1) out

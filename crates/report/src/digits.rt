@@ -16,6 +16,7 @@ pub fn write_digits(out: &mut [u8], number: u64)
     ensures digits { out.new ≡ digits (length out.old) number }
 {
     let mut rest = number;
+    // By index: of what a loop over `iter_mut().rev()` wrote, a proof knows no more than the length.
     for place in (0..out.len()).rev() {
         out[place] = digit_byte(rest % 10);
         rest /= 10;

@@ -1,10 +1,13 @@
-use Rattle.std.proofs.Common.{◌≡◌, ◌-◌, ◌≤◌, ◌++◌, length, vec_items}
-use Rattle.inspection.specs.Files.{findings_from, findings, printed}
+use Rattle.std.proofs.Common.{◌≡◌, ◌≤◌, ◌++◌, vec_items}
+use Rattle.std.specs.Iterator.Adapters.{enumerate_source, enumerate_count}
+use Rattle.inspection.specs.Files.{findings, printed}
+use Rattle.inspection.specs.Orders.{orders_left}
 use Rattle.inspection.proofs.Walk.{left}
 use Rattle.inspection.proofs.files.inspect_orders.Given as goal
 
-abbrev pub invariant-loop-place : goal.invariant-loop-place
-invariant-loop-place l = (l.index ≤ l.place) × (l.lawful ≤ l.index) × (vec_items l.out ++ left l.index l.lawful (findings_from (length l.file - l.index) l.file l.place) ≡ printed (findings l.file))
-
-abbrev pub decreases-loop-place : goal.decreases-loop-place
-decreases-loop-place l = length l.file - l.place
+abbrev pub invariant-loop-index : goal.invariant-loop-index
+invariant-loop-index l =
+    goal.iterator-loop-index.can_next l.index-iterator
+    × goal.iterator-loop-index.is_finite l.index-iterator
+    × (l.lawful ≤ enumerate_count l.index-iterator)
+    × (vec_items l.out ++ left (enumerate_count l.index-iterator) l.lawful (orders_left (enumerate_source l.index-iterator)) ≡ printed (findings l.file))

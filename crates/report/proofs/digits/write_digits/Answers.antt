@@ -1,9 +1,6 @@
 use Rattle.std.proofs.Common.{◌∙◌, arith}
-use Rattle.report.proofs.Figures.{digits_begin, digit_next, digits_end}
+use Rattle.report.proofs.Figures.{digit_next, digits_end}
 use Rattle.report.proofs.digits.write_digits.Goals as goal
-
-pub loop-place-init : goal.loop-place-init
-loop-place-init c = digits_begin _ _
 
 pub loop-place-preserved : goal.loop-place-preserved
 loop-place-preserved c = digit_next _ _ _ _ c.loop-place-test.true (omega arith) c.digit_byte.ensures.byte ∙ c.loop-place.invariant
