@@ -5,7 +5,7 @@ use crate::number_range::NumberRange;
 use crate::year::Year;
 use figures::{Account, Device, WattHours};
 
-#[derive(Clone, Copy)]
+#[derive(Clone, Copy, PartialEq, Eq, Debug)]
 pub struct Declaration {
     pub device: Device,
     pub account: Account,

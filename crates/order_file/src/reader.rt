@@ -13,7 +13,12 @@ pub fn read_order<'a>(bytes: &'a [u8], place: usize) -> Result<(Order, &'a [u8])
     ensures order_and_rest { elim result [ Ok read ↦ read_order bytes.now place ≡ Ok (read.0, read.1.now) | Err fault ↦ read_order bytes.now place ≡ Err fault ] }
     ensures shorter_rest { elim result [ Ok read ↦ length read.1.now < length bytes.now | Err fault ↦ Unit {0} ] }
 {
-    let (command, rest) = bytes.split_first().ok_or(ReadFault::CutShort { place })?;
+    let [command, rest @ ..] = bytes else {
+        return Err(ReadFault::CutShort { place });
+    };
     let kind = Kind::try_from(*command).map_err(|_| ReadFault::UnknownCommand { place })?;
-    split_order(kind, rest).ok_or(ReadFault::CutShort { place })
+    let Some(read) = split_order(kind, rest) else {
+        return Err(ReadFault::CutShort { place });
+    };
+    Ok(read)
 }

@@ -3,7 +3,7 @@ use order_file::{
     AcceptOffer, Cancel, Declare, MakeOffer, NewDay, OpenAccount, RecallOffer, RegisterDevice,
 };
 
-#[derive(Clone, Copy)]
+#[derive(Clone, Copy, PartialEq, Eq, Debug)]
 pub enum Call {
     Account(OpenAccount),
     Device(RegisterDevice),
