@@ -108,7 +108,7 @@ impl<'a, P: Copy> Lent<'a, P> {
         ensures slots_stay { slots_in self.new ≡ slots_in self.old }
     {
         let (low, high) = self.begun_within(range);
-        // By index: a proof knows nothing of what is written through `iter_mut`.
+        // By index, so that the proof follows all entries in use: paid below `i`, and from there on as they were.
         for i in low..high {
             self.slots[i].payload = payload;
         }

@@ -1,19 +1,8 @@
-use Rattle.std.proofs.Common.{◌^◌, sym, ◌∙◌, arith, length-take}
+use Rattle.std.proofs.Common.{◌^◌, sym, ◌∙◌}
 use Rattle.range_map.specs.Map.{in_use, slots_of}
 use Rattle.range_map.proofs.Calls.{change_lets, change_plain, change_rising}
 use Rattle.range_map.proofs.Joining.{changed_is_change}
 use Rattle.range_map.proofs.map.RangeMap.change_checked.Goals as goal
-
-pub change-requires : goal.change-requires
-change-requires g c =
-    let s = c.args.self.now in
-    let lets = change_lets g.P.Payload.TABLE (slots_of s) c.args.range.first c.args.range.last (in_use s) _ c.requires in
-    record {
-      sound = record { fits = s.fits; rising = s.rising };
-      ordered = lets.0;
-      bound = lets.1;
-      room = omega (arith, lets.3, s.fits, length-take s.inner.used s.inner.slots.now);
-    }
 
 pub invariant_of-self : goal.invariant_of-self
 invariant_of-self g c =

@@ -1,15 +1,10 @@
-use Rattle.std.proofs.Common.{length, sym, ap, ◌∙◌, arith, length-take}
+use Rattle.std.proofs.Common.{sym, ◌∙◌}
 use Rattle.range_map.specs.Map.{in_use, slots_of}
 use Rattle.range_map.specs.Replies.{plain_change}
 use Rattle.range_map.proofs.Calls.{change_answer_lem, good_range}
 use Rattle.range_map.proofs.Counting.{cut_loses_nothing}
 use Rattle.range_map.proofs.Firsts.{gap_first}
 use Rattle.range_map.proofs.map.RangeMap.check_change.Goals as goal
-
-pub judge_change-requires-clause-fits : goal.judge_change-requires-clause-fits
-judge_change-requires-clause-fits g c =
-    let s = c.args.self.now.inner in
-    omega (arith, ap length c.entries.ensures.as_they_lie, c.capacity-slots.ensures.all_slots, length-take s.used s.slots.now)
 
 pub returns : goal.returns
 returns g c =

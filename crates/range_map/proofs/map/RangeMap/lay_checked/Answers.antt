@@ -4,12 +4,6 @@ use Rattle.range_map.proofs.Calls.{lay_lets, lay_plain, lay_rising}
 use Rattle.range_map.proofs.Joining.{laid_is_lay}
 use Rattle.range_map.proofs.map.RangeMap.lay_checked.Goals as goal
 
-pub lay-requires-clause-room : goal.lay-requires-clause-room
-lay-requires-clause-room g c =
-    let s = c.args.self.now in
-    let free = lay_lets g.P.Payload.TABLE (slots_of s) c.args.range.first c.args.range.last (in_use s) _ c.requires in
-    omega (arith, free.3, s.fits, length-take s.inner.used s.inner.slots.now)
-
 pub invariant_of-self : goal.invariant_of-self
 invariant_of-self g c =
     let s = c.args.self.now in
