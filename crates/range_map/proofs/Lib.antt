@@ -1,5 +1,6 @@
 pub mod Stops
 pub mod Moves
+pub mod Remaking
 pub mod Slots
 pub mod Cutting
 pub mod Joining

@@ -86,6 +86,10 @@ lay x (e ∷ m) = cond (nat_lt e.last x.first) (e ∷ lay x m) (x ∷ e ∷ m)
 abbrev pub remade : {P : Type 0} → (Entry P → P) → Entry P → Entry P
 remade g e = record { first = e.first; last = e.last; payload = g e }
 
+-- the first and the last position
+abbrev pub ends : {P : Type 0} → Entry P → ℕ × ℕ
+ends e = (e.first, e.last)
+
 -- an entry that begins within f to l gets p
 abbrev pub repaid : {P : Type 0} → ℕ → ℕ → P → Entry P → Entry P
 repaid f l p = remade (λ e. cond (within f l e.first) p e.payload)

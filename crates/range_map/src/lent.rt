@@ -1,11 +1,12 @@
 // Slots that the caller lends, with the entries in use in front. Slots past them are undecided.
-ghost use Rattle.std.specs.Prelude.{◌≡◌, ◌+◌, ◌^◌, ◌<◌, ◌≤◌, length, map};
+ghost use Rattle.std.specs.Prelude.{◌≡◌, ◌+◌, ◌^◌, ◌<◌, ◌≤◌, length, map, take};
 ghost use Rattle.std.specs.List.{insert};
 ghost use Rattle.range_map.specs.Begun.{BeginBelow};
 ghost use Rattle.range_map.specs.Halving.{place};
 ghost use Rattle.range_map.specs.Lent.{LentSound, entries_in, slots_in};
 ghost use Rattle.range_map.specs.Map.{entry_of, repaid_at};
-ghost use Rattle.range_map.specs.Plain.{change, cut, cuts, cuts_of, lay, repaid};
+ghost use Rattle.range_map.specs.declared.entry.Entry.{Entry as EntryOf};
+ghost use Rattle.range_map.specs.Plain.{change, cut, cuts, cuts_of, ends, lay, remade, repaid};
 
 use crate::entry::{Entry, Span};
 use crate::find::{begun, find};
@@ -14,6 +15,28 @@ use crate::find::{begun, find};
 pub struct Lent<'a, P> {
     pub(crate) slots: &'a mut [Entry<P>],
     pub(crate) used: usize,
+}
+
+// Every entry gets what becomes of it. Told of each function that the calls compute.
+fn remake_each<P: Copy, F: Fn(Entry<P>) -> P>(entries: &mut [Entry<P>], becomes: F)
+    requires callable { F.IsAlwaysCallable becomes }
+    ensures each { (g : EntryOf P → P) → ((e : EntryOf P) (p : P) → F.post becomes e p → p ≡ g e) → entries.new ≡ map (remade g) entries.old }
+    ensures ranges_stay { map ends entries.new ≡ map ends entries.old }
+{
+    for entry in entries {
+        entry.payload = becomes(*entry);
+    }
+}
+
+// Those in front.
+fn remake_front<P: Copy, F: Fn(Entry<P>) -> P>(slots: &mut [Entry<P>], used: usize, becomes: F)
+    requires callable { F.IsAlwaysCallable becomes }
+    requires fits { used ≤ length slots.old }
+    ensures each { (g : EntryOf P → P) → ((e : EntryOf P) (p : P) → F.post becomes e p → p ≡ g e) → take used slots.new ≡ map (remade g) (take used slots.old) }
+    ensures ranges_stay { map ends (take used slots.new) ≡ map ends (take used slots.old) }
+    ensures slots_stay { length slots.new ≡ length slots.old }
+{
+    remake_each(&mut slots[..used], becomes);
 }
 
 impl<'a, P: Copy> Lent<'a, P> {
@@ -127,6 +150,19 @@ impl<'a, P: Copy> Lent<'a, P> {
         self.cut(range.last + 1);
         self.cut(range.first);
         self.pay(range, payload);
+    }
+
+    // Every entry in use gets what becomes of it. Told of each function that the calls compute.
+    pub(crate) fn remake<F: Fn(Entry<P>) -> P>(&mut self, becomes: F)
+        requires callable { F.IsAlwaysCallable becomes }
+        requires fits { self.old.used ≤ slots_in self.old }
+        ensures after { (g : EntryOf P → P) → ((e : EntryOf P) (p : P) → F.post becomes e p → p ≡ g e) → entries_in self.new ≡ map (remade g) (entries_in self.old) }
+        ensures ranges_stay { map ends (entries_in self.new) ≡ map ends (entries_in self.old) }
+        ensures count { self.new.used ≡ self.old.used }
+        ensures slots_stay { slots_in self.new ≡ slots_in self.old }
+    {
+        let used = self.used;
+        remake_front(self.slots, used, becomes);
     }
 
     // The payload of one entry, in place.

@@ -1,11 +1,12 @@
 // What may be asked of a map, and done to it. Answers and entries are stated by the index at which a halving stops,
 // and by the definitions in plain words (the clauses `in_plain_words`): entries rise, so the two agree.
-ghost use Rattle.std.specs.Prelude.{◌≡◌, ◌<◌, false, [], length, is_ok, if◌then◌else◌, Ok, nat_le, nat_lt};
+ghost use Rattle.std.specs.Prelude.{◌≡◌, ◌<◌, false, [], length, is_ok, if◌then◌else◌, Ok, nat_le, nat_lt, map};
 ghost use Rattle.range_map.specs.Halving.{place};
 ghost use Rattle.range_map.specs.Laws.{Covering, CutLosesNothing, FirstOpen, FirstTaken, PlainChange, PlainLay, PlainRepay, RunsAtMost, SizesCountPositions};
 ghost use Rattle.range_map.specs.Map.{change_answer, entry_of, in_use, lay_answer, nth, repaid_at, slots_of};
 ghost use Rattle.range_map.specs.Placed.{changed, found, laid, payload_found, rest, taken};
-ghost use Rattle.range_map.specs.Plain.{Rising, at, bad, gap, payload_at};
+ghost use Rattle.range_map.specs.Plain.{Rising, at, bad, gap, payload_at, remade};
+ghost use Rattle.range_map.specs.declared.entry.Entry.{Entry as EntryOf};
 ghost use Rattle.range_map.specs.Replies.{plain_change, plain_lay};
 
 use crate::entry::{Entry, Payload, Span};
@@ -167,6 +168,15 @@ impl<'a, P: Payload> RangeMap<'a, P> {
         }
         self.repay_checked(i, payload);
         true
+    }
+
+    // Another payload for every entry, in place: what becomes of it. Ranges stay. Told of each function that the calls compute.
+    pub fn remake<F: Fn(Entry<P>) -> P>(&mut self, becomes: F)
+        requires callable { F.IsAlwaysCallable becomes }
+        ensures every_entry { (g : EntryOf P → P) → ((e : EntryOf P) (p : P) → F.post becomes e p → p ≡ g e) → in_use self.new ≡ map (remade g) (in_use self.old) }
+        ensures slots_stay { slots_of self.new ≡ slots_of self.old }
+    {
+        self.inner.remake(becomes);
     }
 
     // What is left of a call once its check has passed.

@@ -8,7 +8,6 @@ pub mod OfferRows
 pub mod Offering
 pub mod Overdue
 pub mod Presence
-pub mod Remaking
 pub mod Sizes
 pub mod Verdicts
 pub mod Walks

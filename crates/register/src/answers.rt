@@ -21,7 +21,7 @@ use crate::counts::{count_picked, is_given_back};
 use crate::day::{DayFigures, OpenDay};
 use crate::faults::Fault;
 use crate::registers::Register;
-use crate::remakes::{accepted, recalled, remake_all};
+use crate::remakes::{accepted, recalled};
 use crate::rows::{Offer, OfferState, Standing};
 use crate::terms::Today;
 use books::{Book, Change, Posting, post, post_both};
@@ -172,9 +172,9 @@ fn book_acceptance<AccountBook: Book<Account>, DeviceBook>(
             second: Change::Up(0),
         },
     );
-    remake_all(&mut tables.standings, |entry| {
-        accepted(entry, number, offer.to)
-    });
+    tables
+        .standings
+        .remake(|entry| { accepted(entry, number, offer.to) });
     answer_in(tables.offers, number, OfferCall::Accept);
 }
 
@@ -214,9 +214,9 @@ fn book_recall<AccountBook: Book<Account>, DeviceBook>(
             second: Change::Down(count),
         },
     );
-    remake_all(&mut tables.standings, |entry| {
-        recalled(entry, number, offer.from, today)
-    });
+    tables
+        .standings
+        .remake(|entry| { recalled(entry, number, offer.from, today) });
     answer_in(tables.offers, number, OfferCall::Recall);
 }
 
