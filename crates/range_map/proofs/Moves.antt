@@ -8,10 +8,11 @@ use Rattle.std.proofs.lemmas.Slice.{between_is}
 use Rattle.std.proofs.lemmas.Bool.{ltb-true, ltb-false, le-leb, lt-leb, lt-ltb, le-ltb, and_from, and_left, and_right, cond-true, cond-false}
 use Rattle.range_map.specs.declared.entry.Entry.{Entry}
 use Rattle.range_map.specs.Begun.{BeginBelow}
+use Rattle.range_map.specs.Lent.{paid_within}
 use Rattle.range_map.specs.Halving.{place}
 use Rattle.range_map.specs.Map.{entry_of}
 use Rattle.range_map.specs.Placed.{head_cut, head_cuts}
-use Rattle.range_map.specs.Plain.{Between, below, cut, cuts, from, repaid}
+use Rattle.range_map.specs.Plain.{Between, below, cut, cuts, from, remade, repaid}
 use Rattle.range_map.proofs.Joining.{cut_here, cuts_here}
 use Rattle.range_map.proofs.Stops.{drop_read}
 
@@ -52,46 +53,29 @@ module _ {P : Type 0} (f l : ℕ) (p : P) where
   inside : (e : Entry P) → f ≤ e.first → e.first ≤ l → repaid f l p e ≡ entry_of e.first e.last p
   inside e low high = ap (λ q. record { first = e.first; last = e.last; payload = q }) (cond-true _ _ _ (and_from _ _ (le-leb f e.first low) (le-leb e.first l high)))
 
-  -- what is paid so far, and what is left as it was
-  abbrev pub paid_below : ℕ → List (Entry P) → List (Entry P)
-  paid_below i m = map (repaid f l p) (take i m) ++ drop i m
-
-  -- no entry is paid below the first that begins in the range, and none behind the last
-  pub pay_start : (m : List (Entry P)) (i : ℕ) → i ≤ length m → BeginBelow f m i → m ≡ paid_below i m
-  pay_start m zero le s = refl
-  pay_start [] (suc i) le s = refl
-  pay_start (e ∷ m) (suc i) le s =
-      let more = pay_start m i (omega arith) (λ k d low high. s.0 (suc k) d (omega arith) (omega arith), λ k d low high. s.1 (suc k) d (omega arith) (omega arith)) in
-      λ j. sym (before e (ltb-true e.first f (s.0 0 e (omega arith) (omega arith)))) j ∷ more j
-
-  pub pay_end : (m : List (Entry P)) (i : ℕ) → i ≤ length m → BeginBelow (l + 1) m i → paid_below i m ≡ map (repaid f l p) m
-  pay_end [] zero le s = refl
-  pay_end [] (suc i) le s = refl
-  pay_end (e ∷ m) zero le s =
-      let more = pay_end m zero (omega arith) (λ k d low high. absurd (omega arith), λ k d low high. s.1 (suc k) d (omega arith) (omega arith)) in
-      λ j. sym (behind e (omega (arith, ltb-false e.first (l + 1) (s.1 0 e (omega arith) (omega arith))))) j ∷ more j
-  pay_end (e ∷ m) (suc i) le s =
-      let more = pay_end m i (omega arith) (λ k d low high. s.0 (suc k) d (omega arith) (omega arith), λ k d low high. s.1 (suc k) d (omega arith) (omega arith)) in
-      ap (λ r. repaid f l p e ∷ r) more
-
-  -- one entry paid
-  abbrev written : List (Entry P) → ℕ → Entry P → Entry P
-  written s i e = record { first = (get_or s i e).first; last = (get_or s i e).last; payload = p }
-
-  pay_one : (m : List (Entry P)) (i : ℕ) (e : Entry P) → i < length m → f ≤ (get_or m i e).first → (get_or m i e).first ≤ l → set (paid_below i m) i (written (paid_below i m) i e) ≡ paid_below (suc i) m
-  pay_one [] i e lt low high = absurd (omega arith)
-  pay_one (x ∷ m) zero e lt low high = ap (λ y. y ∷ m) (sym (inside x low high))
-  pay_one (x ∷ m) (suc i) e lt low high = ap (λ r. repaid f l p x ∷ r) (pay_one m i e (omega arith) low high)
-
-  pub pay_turn : (m xs : List (Entry P)) (used i low high : ℕ) (e : Entry P) → used ≤ length xs → length m ≡ used → i < used → take used xs ≡ paid_below i m → BeginBelow f m low → BeginBelow (l + 1) m high → low ≤ i → i < high → take used (set xs i (written xs i e)) ≡ paid_below (i + 1) m
-  pay_turn m xs used i low high e fits long lt now s t from_low to_high =
-      let begun = ltb-false _ f (s.1 i e from_low (omega arith)) in
-      let ends = ltb-true _ (l + 1) (t.0 i e (omega arith) to_high) in
-      take-set-lt used xs i (written xs i e) lt
-      ∙ ap (λ y. set (take used xs) i (record { first = y.first; last = y.last; payload = p })) (sym (get_or-take used xs i e lt))
-      ∙ ap (λ r. set r i (written r i e)) now
-      ∙ pay_one m i e (omega arith) begun (omega (arith, ends))
-      ∙ ap (λ k. paid_below k m) (sym (add-one i))
+  -- the entries that begin in the range are those from low to high
+  pub pay_is : (xs : List (Entry P)) (used low high : ℕ) → low ≤ high → high ≤ used → used ≤ length xs → BeginBelow f (take used xs) low → BeginBelow (l + 1) (take used xs) high → take used (paid_within low high p xs) ≡ map (repaid f l p) (take used xs)
+  pay_is xs zero zero zero le few fits s t = refl
+  pay_is xs zero zero (suc high) le few fits s t = absurd (omega arith)
+  pay_is xs zero (suc low) high le few fits s t = absurd (omega arith)
+  pay_is [] (suc used) low high le few fits s t = absurd (omega arith)
+  pay_is (e ∷ xs) (suc used) zero zero le few fits s t =
+      let more = pay_is xs used zero zero (omega arith) (omega arith) (omega arith) (λ k d low high. absurd (omega arith), λ k d low high. s.1 (suc k) d (omega arith) (omega arith)) (λ k d low high. absurd (omega arith), λ k d low high. t.1 (suc k) d (omega arith) (omega arith)) in
+      λ j. sym (behind e (omega (arith, ltb-false e.first (l + 1) (t.1 0 e (omega arith) (omega arith))))) j ∷ more j
+  pay_is (e ∷ xs) (suc used) zero (suc high) le few fits s t =
+      let more = pay_is xs used zero high (omega arith) (omega arith) (omega arith) (λ k d low high. absurd (omega arith), λ k d low high. s.1 (suc k) d (omega arith) (omega arith)) (λ k d low high. t.0 (suc k) d (omega arith) (omega arith), λ k d low high. t.1 (suc k) d (omega arith) (omega arith)) in
+      let here = inside e (ltb-false e.first f (s.1 0 e (omega arith) (omega arith))) (omega (arith, ltb-true e.first (l + 1) (t.0 0 e (omega arith) (omega arith)))) in
+      let one : suc high - 0 ≡ suc high = omega arith in
+      let none : high - 0 ≡ high = omega arith in
+      ap (λ n. take (suc used) (map (remade (λ _. p)) (take n (e ∷ xs)) ++ drop high xs)) one
+      ∙ ap (λ n. entry_of e.first e.last p ∷ take used (map (remade (λ _. p)) (take n xs) ++ drop high xs)) (sym none)
+      ∙ (λ j. sym here j ∷ more j)
+  pay_is (e ∷ xs) (suc used) (suc low) zero le few fits s t = absurd (omega arith)
+  pay_is (e ∷ xs) (suc used) (suc low) (suc high) le few fits s t =
+      let more = pay_is xs used low high (omega arith) (omega arith) (omega arith) (λ k d low high. s.0 (suc k) d (omega arith) (omega arith), λ k d low high. s.1 (suc k) d (omega arith) (omega arith)) (λ k d low high. t.0 (suc k) d (omega arith) (omega arith), λ k d low high. t.1 (suc k) d (omega arith) (omega arith)) in
+      let same : suc high - suc low ≡ high - low = omega arith in
+      ap (λ n. e ∷ take used (take low xs ++ (map (remade (λ _. p)) (take n (drop low xs)) ++ drop high xs))) same
+      ∙ (λ j. sym (before e (ltb-true e.first f (s.0 0 e (omega arith) (omega arith)))) j ∷ more j)
 
   pub low_high : (m : List (Entry P)) (low high : ℕ) → f ≤ l → low ≤ length m → BeginBelow f m low → BeginBelow (l + 1) m high → low ≤ high
   low_high [] low high le long s t = omega arith

@@ -3,7 +3,7 @@ ghost use Rattle.std.specs.Prelude.{◌≡◌, ◌+◌, ◌^◌, ◌<◌, ◌≤
 ghost use Rattle.std.specs.List.{insert};
 ghost use Rattle.range_map.specs.Begun.{BeginBelow};
 ghost use Rattle.range_map.specs.Halving.{place};
-ghost use Rattle.range_map.specs.Lent.{LentSound, entries_in, slots_in};
+ghost use Rattle.range_map.specs.Lent.{LentSound, entries_in, paid_within, slots_in};
 ghost use Rattle.range_map.specs.Map.{entry_of, repaid_at};
 ghost use Rattle.range_map.specs.declared.entry.Entry.{Entry as EntryOf};
 ghost use Rattle.range_map.specs.Plain.{change, cut, cuts, cuts_of, ends, lay, remade, repaid};
@@ -37,6 +37,15 @@ fn remake_front<P: Copy, F: Fn(Entry<P>) -> P>(slots: &mut [Entry<P>], used: usi
     ensures slots_stay { length slots.new ≡ length slots.old }
 {
     remake_each(&mut slots[..used], becomes);
+}
+
+// The payload for the entries from `low` on, up to `high`.
+fn pay_within<P: Copy>(slots: &mut [Entry<P>], low: usize, high: usize, payload: P)
+    requires ordered { low ≤ high }
+    requires within { high ≤ length slots.old }
+    ensures after { slots.new ≡ paid_within low high payload slots.old }
+{
+    remake_each(&mut slots[low..high], |_| payload);
 }
 
 impl<'a, P: Copy> Lent<'a, P> {
@@ -131,10 +140,7 @@ impl<'a, P: Copy> Lent<'a, P> {
         ensures slots_stay { slots_in self.new ≡ slots_in self.old }
     {
         let (low, high) = self.begun_within(range);
-        // By index, so that the proof follows all entries in use: paid below `i`, and from there on as they were.
-        for i in low..high {
-            self.slots[i].payload = payload;
-        }
+        pay_within(self.slots, low, high, payload);
     }
 
     // Both cuts, then the payload for what lies between.
