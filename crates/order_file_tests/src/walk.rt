@@ -13,6 +13,7 @@ pub(crate) fn walk_through(file: &[u8]) -> Walk {
     let mut rest = file;
     let mut read = 0usize;
     let mut lawful = 0usize;
+    // No iterator: the refusal that ends the walk is part of its answer.
     loop {
         let place = file.len().saturating_sub(rest.len());
         match read_order(rest, place) {

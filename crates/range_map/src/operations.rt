@@ -154,7 +154,8 @@ impl<'a, P: Payload> RangeMap<'a, P> {
         Ok(())
     }
 
-    // Another payload for the entry at an index, in place: false where there is none.
+    // Another payload for the entry at an index, in place: false where there is none. A bool, since nothing
+    // comes with either answer.
     pub fn repay(&mut self, i: usize, payload: P) -> bool
         ensures present { result ≡ nat_lt i (length (in_use self.old)) }
         ensures entries { in_use self.new ≡ repaid_at i payload (in_use self.old) }

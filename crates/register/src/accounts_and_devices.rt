@@ -1,4 +1,5 @@
-// Opening an account and registering a device: the key joins its book.
+// Opening an account and registering a device: the key joins its book. Two calls, each under its own name and
+// contract; all that they do alike is the book's `add`.
 ghost use Rattle.std.specs.Prelude.{◌≡◌, true, false, is_ok};
 ghost use Rattle.register.specs.Bookings.{opening, registration};
 ghost use Rattle.register.specs.Checks.{opening_checks, registration_checks};

@@ -92,7 +92,8 @@ fn overdue_under(today: Today<'_, '_>, offer: u32, entry: Entry<Standing>) -> Op
     today.overdue(entry.first)
 }
 
-// In the row of its number.
+// In the row of its number. That there is such a row is known of the lent rows and the day's count together,
+// so its callers owe it.
 fn answer_in(offers: &mut [Offer], number: u32, call: OfferCall)
     requires numbered { 1 ≤ number }
     requires within { number - 1 < length offers.old }
