@@ -15,6 +15,7 @@ pub enum BookFault {
 }
 
 impl BookFault {
+    // A method and no `From`: the name says which figure of the fault is meant.
     pub fn number(&self) -> u8
         ensures number { result ≡ number_of self.now }
     {

@@ -19,6 +19,7 @@ pub enum Returned {
 }
 
 impl MapFault {
+    // Methods and no `From`: a fault gives a number and what it returns, and the names say which.
     pub fn number(self) -> u8
         ensures as_numbered { result ≡ number_of self }
     {

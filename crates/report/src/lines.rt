@@ -1,4 +1,5 @@
-// Whole lines, each with its line end.
+// Whole lines, each with its line end. Not by `Display`: a line's length is in its type, and a figure too
+// wide for its place shows its last digits, where `{:06}` would show them all.
 ghost use Rattle.std.specs.Prelude.{◌≡◌};
 ghost use Rattle.report.specs.Lines.{refused_line, lawful_line, too_long_line};
 
