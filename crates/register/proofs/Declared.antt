@@ -22,8 +22,7 @@ use Rattle.register.specs.declared.day.DayFigures.{DayFigures}
 use Rattle.register.specs.declared.issues.Issue.{Issue}
 use Rattle.register.specs.declared.rows.Standing.TheVariants.{Held}
 use Rattle.register.specs.declared.tables.Tables.{Tables}
-use Rattle.register.proofs.Finding.{passed}
-use Rattle.register.proofs.Verdicts.{all_pass}
+use Rattle.register.proofs.Verdicts.{all_pass, passed}
 
 -- a total that is read as its limit is written as what it was
 total_once : (x : ℕ) → total (min x most_total) ≡ total x

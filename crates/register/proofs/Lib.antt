@@ -1,7 +1,6 @@
 pub mod Answering
 pub mod Declared
 pub mod Declaring
-pub mod Finding
 pub mod Judging
 pub mod Lowering
 pub mod OfferRows
