@@ -11,4 +11,3 @@ pub mod Presence
 pub mod Remaking
 pub mod Sizes
 pub mod Verdicts
-pub mod Walks
