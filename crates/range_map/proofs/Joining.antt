@@ -1,6 +1,6 @@
 -- At a rising map the halving stops behind exactly the entries that end before the position,
 -- so that the definitions by index are those by recursion. Assumes nothing.
-use Rattle.std.proofs.Common.{◌≡◌, ℕ, zero, suc, ◌+◌, ◌-◌, ◌/◌, ◌<◌, ◌≤◌, Bool, true, false, cond, ltb, leb, ◌⊎◌, List, [], ◌∷◌, ◌++◌, map, length, get_or, take, drop, Some, None, Option, sym, refl, ap, ◌∙◌, subst, inl, inr, ⊎_elim, zero-add, arith}
+use Rattle.std.proofs.Common.{◌≡◌, ℕ, zero, suc, ◌+◌, ◌-◌, ◌/◌, ◌<◌, ◌≤◌, Bool, true, false, cond, not, ◌||◌, ltb, leb, ◌⊎◌, List, [], ◌∷◌, ◌++◌, map, length, get_or, take, drop, Some, None, Option, sym, refl, ap, ◌∙◌, subst, inl, inr, ⊎_elim, zero-add, arith}
 use lib.ListN.{length-map}
 use Rattle.std.specs.List.{insert, slice_get}
 use Rattle.std.specs.List.Sorted.{IsNonDecreasingBy, IsPartitionPoint}
@@ -9,12 +9,16 @@ use Rattle.std.proofs.lemmas.Bool.{cases_lt, cases_Bool, lt-ltb, le-ltb, ltb-tru
 use Rattle.std.proofs.lemmas.Bool.Decides.{nat_tests}
 use Rattle.range_map.specs.declared.entry.Entry.{Entry}
 use Rattle.range_map.specs.Halving.{seek, lasts, place}
-use Rattle.range_map.specs.Plain.{Between, at, hit, holding, meeting, gap, below, from, split, cut, cuts, lay, repaid, change, cuts_of}
+use Rattle.range_map.specs.Plain.{Between, at, hit, holding, meeting, gap, gap_by, below, from, split, cut, cuts, lay, repaid, change, cuts_of}
 use Rattle.range_map.specs.Placed.{rest, head_at, found, head_hit, taken, uncovered, head_cuts, head_cut, ending, cuts_in, cut_at, paid, head_paid, paid_at, changed, laid}
 use Rattle.range_map.proofs.Cutting.{between_weaker, between_cut}
 
 abbrev mid : ℕ → ℕ → ℕ
 mid low high = low + (high - low) / 2
+
+or_none : (b : Bool) → (b || not true) ≡ b
+or_none true = refl
+or_none false = refl
 
 -- r is a place to stop: what stands before it is below n, and what stands there is not
 pub record Stop (n : ℕ) (xs : List ℕ) (r : ℕ) : Type 0 where
@@ -158,11 +162,26 @@ module _ {P : Type 0} where
         ap (λ k. gap f l (drop k m)) (place_skipped f b h m w)
         ∙ sym (by_skipping f (gap f l) (gap f l) refl (λ e r. ⊎_elim (λ t. cond-true _ _ _ t ∙ sym (cond-true _ _ _ t)) (λ t. sym (cond-false _ _ _ t)) (cases_Bool (ltb e.last f))) m)
 
+    pub failing_is_gap_by : (t : P → Bool) (f l : ℕ) → gap_by t f l (rest f m) ≡ gap_by t f l m
+    unfolding gap_by
+    failing_is_gap_by t f l =
+        ap (λ k. gap_by t f l (drop k m)) (place_skipped f b h m w)
+        ∙ sym (by_skipping f (gap_by t f l) (gap_by t f l) refl (λ e r. ⊎_elim (λ c. cond-true _ _ _ c ∙ sym (cond-true _ _ _ c)) (λ c. sym (cond-false _ _ _ c)) (cases_Bool (ltb e.last f))) m)
+
     pub laid_is_lay : (x : Entry P) → laid x m ≡ lay x m
     unfolding laid lay
     laid_is_lay x =
         ap (λ k. take k m ++ (x ∷ drop k m)) (place_skipped x.first b h m w)
         ∙ sym (by_keeping x.first (lay x) (λ r. x ∷ r) refl (λ _ _. refl) m)
+
+  -- where every payload passes, only what no entry covers fails
+  pub gap_by_any : (f l : ℕ) (m : List (Entry P)) → gap_by (λ _. true) f l m ≡ gap f l m
+  unfolding gap_by gap
+  gap_by_any f l [] = refl
+  gap_by_any f l (e ∷ m) =
+      let skip = gap_by_any f l m in
+      let on = gap_by_any (e.last + 1) l m in
+      λ i. cond (ltb e.last f) (skip i) (cond (or_none (ltb f e.first) i) (Some f) (cond (ltb e.last l) (on i) None))
 
   -- what the entry where the halving stops answers
   module _ (b h : ℕ) (m : List (Entry P)) (w : Between b h m) (n i : ℕ) (is : i ≡ place n m) where

@@ -1,7 +1,7 @@
 -- What is read where the halving stops, and the walk from there on. Assumes nothing.
-use Rattle.std.proofs.Common.{◌≡◌, ℕ, suc, ◌+◌, ◌^◌, ◌<◌, ◌≤◌, Bool, true, false, cond, leb, ltb, max, List, [], ◌∷◌, length, get_or, drop, Bor, MatchOption, Some, None, Option, sym, refl, ap, ◌∙◌, subst, arith}
+use Rattle.std.proofs.Common.{◌≡◌, ℕ, suc, ◌+◌, ◌^◌, ◌<◌, ◌≤◌, Bool, true, false, cond, not, leb, ltb, max, List, [], ◌∷◌, length, get_or, drop, Bor, MatchOption, Some, None, Option, sym, refl, ap, ◌∙◌, subst, arith}
 use Rattle.std.proofs.lemmas.List.{drop_all, drop_more}
-use Rattle.std.proofs.lemmas.Bool.{lt-ltb, le-ltb, ltb-false, cond-true, cond-false, cond_both}
+use Rattle.std.proofs.lemmas.Bool.{lt-ltb, le-ltb, ltb-false, or_left, or_right, or_from, cond-true, cond-false, cond_both}
 use Rattle.std.proofs.lemmas.Option.{slice_get_past, slice_get_read}
 use Rattle.std.specs.Bool.{then_some}
 use Rattle.std.specs.Int.{from_bool}
@@ -9,9 +9,7 @@ use Rattle.std.specs.List.{slice_get}
 use Rattle.std.specs.Option.{IsSomeAnd, option_and_then, option_copied, option_map, option_map_or}
 use Rattle.std.specs.Slice.{IsItemAt}
 use Rattle.range_map.specs.declared.entry.Entry.{Entry}
-use Rattle.range_map.specs.Halving.{place}
-use Rattle.range_map.specs.Placed.{uncovered}
-use Rattle.range_map.specs.Plain.{Between, gap, meeting}
+use Rattle.range_map.specs.Plain.{Between, gap_by, meeting}
 use Rattle.range_map.proofs.Joining.{skipped}
 
 module _ {X : Type 0} where
@@ -84,25 +82,29 @@ module _ {P : Type 0} where
     pub ahead_next : Ahead (e.last + 1) (drop (i + 1) m)
     ahead_next = ahead_of (e.last + 1) (drop (i + 1) m) (subst (Ahead n) (drop_read m i e lt read) a).1
 
-  -- the two ways in which the walk stops, one entry covered, the end
-  pub walk_open : (g l : ℕ) (m : List (Entry P)) (i : ℕ) (e : Entry P) → i < length m → e ≡ get_or m i e → g ≤ e.last → g < e.first → gap g l (drop i m) ≡ Some g
-  unfolding gap
-  walk_open g l m i e lt read reach later = ap (gap g l) (drop_read m i e lt read) ∙ cond-false _ _ _ (le-ltb _ g reach) ∙ cond-true _ _ _ (lt-ltb g _ later)
+  -- the ways in which the walk stops, one entry passed, the end
+  module _ (t : P → Bool) (g l : ℕ) (m : List (Entry P)) (i : ℕ) where
+    pub walk_end : length m ≤ i → gap_by t g l (drop i m) ≡ Some g
+    unfolding gap_by
+    walk_end past = ap (gap_by t g l) (drop_all i m past)
 
-  pub walk_covered : (g l : ℕ) (m : List (Entry P)) (i : ℕ) (e : Entry P) → i < length m → e ≡ get_or m i e → g ≤ e.last → e.first ≤ g → l ≤ e.last → gap g l (drop i m) ≡ None
-  unfolding gap
-  walk_covered g l m i e lt read reach begun far =
-      ap (gap g l) (drop_read m i e lt read) ∙ cond-false _ _ _ (le-ltb _ g reach) ∙ cond-false _ _ _ (le-ltb g _ begun) ∙ cond-false _ _ _ (le-ltb _ l far)
+    module _ (e : Entry P) (lt : i < length m) (read : e ≡ get_or m i e) (reach : g ≤ e.last) where
+      pub walk_open : g < e.first → gap_by t g l (drop i m) ≡ Some g
+      unfolding gap_by
+      walk_open later = ap (gap_by t g l) (drop_read m i e lt read) ∙ cond-false _ _ _ (le-ltb _ g reach) ∙ cond-true _ _ _ (or_left _ _ (lt-ltb g _ later))
 
-  pub walk_on : (g l : ℕ) (m : List (Entry P)) (i : ℕ) (e : Entry P) → i < length m → e ≡ get_or m i e → g ≤ e.last → e.first ≤ g → e.last < l → gap g l (drop i m) ≡ gap (e.last + 1) l (drop (i + 1) m)
-  unfolding gap
-  walk_on g l m i e lt read reach begun less =
-      ap (gap g l) (drop_read m i e lt read) ∙ cond-false _ _ _ (le-ltb _ g reach) ∙ cond-false _ _ _ (le-ltb g _ begun) ∙ cond-true _ _ _ (lt-ltb _ l less)
+      pub walk_fails : t e.payload ≡ false → gap_by t g l (drop i m) ≡ Some g
+      unfolding gap_by
+      walk_fails fails = ap (gap_by t g l) (drop_read m i e lt read) ∙ cond-false _ _ _ (le-ltb _ g reach) ∙ cond-true _ _ _ (or_right _ _ (ap not fails))
 
-  pub walk_end : (g l : ℕ) (m : List (Entry P)) (i : ℕ) → length m ≤ i → gap g l (drop i m) ≡ Some g
-  unfolding gap
-  walk_end g l m i past = ap (gap g l) (drop_all i m past)
+      module _ (begun : e.first ≤ g) (passes : t e.payload ≡ true) where
+        passed : gap_by t g l (drop i m) ≡ cond (ltb e.last l) (gap_by t (e.last + 1) l (drop (i + 1) m)) None
+        unfolding gap_by
+        passed =
+            ap (gap_by t g l) (drop_read m i e lt read) ∙ cond-false _ _ _ (le-ltb _ g reach) ∙ cond-false _ _ _ (or_from _ _ (le-ltb g _ begun) (ap not passes))
 
-  pub uncovered_is : (f l : ℕ) (m : List (Entry P)) (i : ℕ) → i ≡ place f m → gap f l (drop i m) ≡ uncovered f l m
-  unfolding uncovered
-  uncovered_is f l m i is = ap (λ k. gap f l (drop k m)) is
+        pub walk_done : l ≤ e.last → gap_by t g l (drop i m) ≡ None
+        walk_done far = passed ∙ cond-false _ _ _ (le-ltb _ l far)
+
+        pub walk_on : e.last < l → gap_by t g l (drop i m) ≡ gap_by t (e.last + 1) l (drop (i + 1) m)
+        walk_on less = passed ∙ cond-true _ _ _ (lt-ltb _ l less)

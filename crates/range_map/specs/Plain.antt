@@ -1,6 +1,6 @@
 -- A map is a list of entries. What each question and each call means, by recursion over the list.
 -- Every definition passes over the entries that end before the position asked for: at a rising map these are the ones below it.
-use Rattle.std.specs.Prelude.{ℕ, ◌+◌, ◌-◌, ◌^◌, ◌<◌, ◌≤◌, max, Bool, cond, ◌&&◌, ◌||◌, List, [], ◌∷◌, map, Some, None, Option, nat_le, nat_lt}
+use Rattle.std.specs.Prelude.{ℕ, ◌+◌, ◌-◌, ◌^◌, ◌<◌, ◌≤◌, max, Bool, cond, not, ◌&&◌, ◌||◌, List, [], ◌∷◌, map, Some, None, Option, nat_le, nat_lt}
 use mathlib.Core.HLevel.{Unit-prop}
 use native.Mathlib.Bridge.{le_prop}
 use Rattle.std.specs.Option.{option_map}
@@ -55,6 +55,13 @@ unfoldable pub gap : {P : Type 0} → ℕ → ℕ → List (Entry P) → Option 
 gap f l [] = Some f
 gap f l (e ∷ m) =
     cond (nat_lt e.last f) (gap f l m) (cond (nat_lt f e.first) (Some f) (cond (nat_lt e.last l) (gap (e.last + 1) l m) None))
+
+-- the first of the positions f to l that no entry covers or whose payload fails the test
+unfoldable pub gap_by : {P : Type 0} → (P → Bool) → ℕ → ℕ → List (Entry P) → Option ℕ
+gap_by t f l [] = Some f
+gap_by t f l (e ∷ m) =
+    cond (nat_lt e.last f) (gap_by t f l m)
+    (cond (nat_lt f e.first || not (t e.payload)) (Some f) (cond (nat_lt e.last l) (gap_by t (e.last + 1) l m) None))
 
 -- the two parts of e when it is cut before n: both keep the payload
 abbrev pub below : {P : Type 0} → ℕ → Entry P → Entry P

@@ -1,8 +1,9 @@
 // Questions on entries that rise. Each begins at the place of a position: the index of the first entry that ends there or past it.
-ghost use Rattle.std.specs.Prelude.{◌≡◌, ◌+◌, ◌^◌, ◌<◌, ◌≤◌, length};
+ghost use Rattle.std.specs.Prelude.{◌≡◌, ◌+◌, ◌^◌, ◌<◌, ◌≤◌, length, Bool};
 ghost use Rattle.range_map.specs.Begun.{BeginBelow};
 ghost use Rattle.range_map.specs.Halving.{place};
-ghost use Rattle.range_map.specs.Plain.{Rising, at, cuts, cuts_of, gap, hit};
+ghost use Rattle.range_map.specs.Placed.{rest};
+ghost use Rattle.range_map.specs.Plain.{Rising, at, cuts, cuts_of, gap, gap_by, hit};
 
 use crate::entry::{Entry, Span};
 
@@ -35,15 +36,27 @@ pub(crate) fn first_taken<P: Copy>(entries: &[Entry<P>], range: Span) -> Option<
         .filter(|n| *n <= range.last)
 }
 
-// The first position of a range that no entry covers.
-pub(crate) fn first_uncovered<P: Copy>(entries: &[Entry<P>], range: Span) -> Option<u64>
+// The entries that a walk for the position passes.
+fn ahead_of<P: Copy>(entries: &[Entry<P>], position: u64) -> &[Entry<P>]
     requires { Rising entries.now }
-    ensures { result ≡ gap range.first range.last entries.now }
+    ensures { result.now ≡ rest position entries.now }
 {
-    let ahead = &entries[find(entries, range.first)..];
+    &entries[find(entries, position)..]
+}
+
+// The first position of a range that no entry covers or whose payload fails the test. Told of each test that the calls compute.
+pub(crate) fn first_failing<P: Copy, F: Fn(P) -> bool>(
+    entries: &[Entry<P>],
+    range: Span,
+    passes: F,
+) -> Option<u64>
+    requires rising { Rising entries.now }
+    requires callable { F.IsAlwaysCallable passes }
+    ensures { (t : P → Bool) → ((p : P) (b : Bool) → F.post passes p b → b ≡ t p) → result ≡ gap_by t range.first range.last (rest range.first entries.now) }
+{
     let mut wanted = range.first;
-    for e in ahead {
-        if wanted < e.first {
+    for e in ahead_of(entries, range.first) {
+        if wanted < e.first || !passes(e.payload) {
             return Some(wanted);
         }
         if e.last >= range.last {
@@ -52,6 +65,14 @@ pub(crate) fn first_uncovered<P: Copy>(entries: &[Entry<P>], range: Span) -> Opt
         wanted = e.last + 1;
     }
     Some(wanted)
+}
+
+// The first position of a range that no entry covers.
+pub(crate) fn first_uncovered<P: Copy>(entries: &[Entry<P>], range: Span) -> Option<u64>
+    requires { Rising entries.now }
+    ensures { result ≡ gap range.first range.last entries.now }
+{
+    first_failing(entries, range, |_| true)
 }
 
 // How many entries in front begin before the position.

@@ -1,17 +1,17 @@
 // What may be asked of a map, and done to it. Answers and entries are stated by the index at which a halving stops,
 // and by the definitions in plain words (the clauses `in_plain_words`): entries rise, so the two agree.
-ghost use Rattle.std.specs.Prelude.{◌≡◌, ◌<◌, false, [], length, is_ok, if◌then◌else◌, Ok, nat_le, nat_lt, map};
+ghost use Rattle.std.specs.Prelude.{◌≡◌, ◌<◌, false, [], length, is_ok, if◌then◌else◌, Bool, Ok, nat_le, nat_lt, map};
 ghost use Rattle.range_map.specs.Halving.{place};
 ghost use Rattle.range_map.specs.Laws.{Covering, CutLosesNothing, FirstOpen, FirstTaken, PlainChange, PlainLay, PlainRepay, RunsAtMost, SizesCountPositions};
 ghost use Rattle.range_map.specs.Map.{change_answer, entry_of, in_use, lay_answer, nth, repaid_at, slots_of};
 ghost use Rattle.range_map.specs.Placed.{changed, found, laid, payload_found, rest, taken};
-ghost use Rattle.range_map.specs.Plain.{Rising, at, bad, gap, payload_at, remade};
+ghost use Rattle.range_map.specs.Plain.{Rising, at, bad, gap, gap_by, payload_at, remade};
 ghost use Rattle.range_map.specs.declared.entry.Entry.{Entry as EntryOf};
 ghost use Rattle.range_map.specs.Replies.{plain_change, plain_lay};
 
 use crate::entry::{Entry, Payload, Span};
 use crate::fault::MapFault;
-use crate::find::{covering, first_taken};
+use crate::find::{covering, first_failing, first_taken};
 use crate::judge::{judge_change, judge_lay};
 use crate::lent::Lent;
 use crate::map::RangeMap;
@@ -42,14 +42,6 @@ impl<'a, P: Payload> RangeMap<'a, P> {
         ensures place { result ≡ place position (in_use self.now) }
     {
         self.inner.place_of(position)
-    }
-
-    // The entries from the first that ends at the position or past it on: what a walk passes.
-    pub fn entries_from(&self, position: u64) -> &[Entry<P>]
-        ensures rest { result.now ≡ rest position (in_use self.now) }
-    {
-        let from = self.inner.place_of(position);
-        &self.entries()[from..]
     }
 
     // The number of entries in use.
@@ -102,6 +94,16 @@ impl<'a, P: Payload> RangeMap<'a, P> {
         ensures in_plain_words { FirstTaken range.first range.last (in_use self.now) result }
     {
         first_taken(self.entries(), range)
+    }
+
+    // The first position of a range that no entry covers or whose payload fails the test. Told of each test that the calls compute.
+    #[tactic(auto, using(crate::proofs::Joining::failing_is_gap_by))]
+    pub fn first_failing<F: Fn(P) -> bool>(&self, range: Span, passes: F) -> Option<u64>
+        requires callable { F.IsAlwaysCallable passes }
+        ensures as_placed { (t : P → Bool) → ((p : P) (b : Bool) → F.post passes p b → b ≡ t p) → result ≡ gap_by t range.first range.last (rest range.first (in_use self.now)) }
+        ensures in_plain_words { (t : P → Bool) → ((p : P) (b : Bool) → F.post passes p b → b ≡ t p) → result ≡ gap_by t range.first range.last (in_use self.now) }
+    {
+        first_failing(self.entries(), range, passes)
     }
 
     // What `lay` would reply, with nothing changed.

@@ -1,16 +1,16 @@
 -- What the walks over entries say of each number, and what keeps every number of an entry at one origin. Assumes nothing.
-use Rattle.std.proofs.Common.{◌≡◌, ℕ, ◌+◌, ◌^◌, ◌<◌, ◌≤◌, Bool, true, ltb, leb, List, [], ◌∷◌, map, drop, Some, None, Option, sym, refl, ap, ◌∙◌, subst, ⊎_elim, arith}
+use Rattle.std.proofs.Common.{◌≡◌, ℕ, ◌+◌, ◌^◌, ◌<◌, ◌≤◌, Bool, true, ltb, leb, List, [], ◌∷◌, map, Some, None, Option, sym, refl, ap, ◌∙◌, subst, ⊎_elim, arith}
 use Rattle.std.proofs.lemmas.Bool.{both_ways, cases_lt, cases_Bool, lt-ltb, le-ltb, ltb-true, ltb-false, le-leb, leb-true, cond-true, cond-false, cond_both}
 use Rattle.std.proofs.lemmas.Bool.Decides.{nat_tests}
 use Rattle.std.specs.Option.{option_map}
 use Rattle.figures.specs.declared.accounts.Account.{Account}
 use Rattle.range_map.specs.Counts.{passes}
-use Rattle.range_map.specs.Placed.{rest, payload_found}
-use Rattle.range_map.specs.Plain.{Between, Rising, at, payload_at, below, from, cut, lay, remade}
+use Rattle.range_map.specs.Placed.{payload_found}
+use Rattle.range_map.specs.Plain.{Between, Rising, at, gap_by, payload_at, below, from, cut, lay, remade}
 use Rattle.range_map.specs.declared.entry.Entry.{Entry}
 use Rattle.range_map.proofs.Cutting.{at_below}
-use Rattle.range_map.proofs.Joining.{found_is, by_skipping, place_skipped}
-use Rattle.register.specs.Holdings.{held_by, gap_by, unheld, under_offer, first_overdue, or_next}
+use Rattle.range_map.proofs.Joining.{failing_is_gap_by, found_is}
+use Rattle.register.specs.Holdings.{held_by, unheld, under_offer, first_overdue, or_next}
 use Rattle.register.specs.Terms.{overdue}
 use Rattle.register.specs.declared.rows.Origin.{Origin}
 use Rattle.register.specs.declared.rows.Standing.{Standing}
@@ -60,13 +60,6 @@ module _ {P : Type 0} where
       (cases_lt e.last n))
       (cases_lt e.last f)
 
-  -- the walk may as well begin at the first entry
-  pub gap_from_start : (t : P → Bool) (f l : ℕ) (m : List (Entry P)) → Rising m → gap_by t f l (rest f m) ≡ gap_by t f l m
-  unfolding gap_by
-  gap_from_start t f l m w =
-      ap (λ k. gap_by t f l (drop k m)) (place_skipped f 0 (2 ^ 62) m w)
-      ∙ sym (by_skipping f (gap_by t f l) (gap_by t f l) refl (λ e r. ⊎_elim (λ b. cond-true _ _ _ b ∙ sym (cond-true _ _ _ b)) (λ b. sym (cond-false _ _ _ b)) (cases_Bool (ltb e.last f))) m)
-
 or_next_lem : (day : Option ℕ) (number : ℕ) (next : Option (ℕ × ℕ)) → or_next day number next ≡ None → (day ≡ None) × (next ≡ None)
 or_next_lem None number next h = (refl, h)
 or_next_lem (Some day) number next h = let z : ◌≡◌ {A = ℕ} 0 1 = cc in absurd (omega arith)
@@ -81,7 +74,7 @@ overdue_here k date os e m h =
 
 pub unheld_none : (a : Account) (f l : ℕ) (m : List (Entry Standing)) → Rising m → unheld a f l m ≡ None → (n : ℕ) → f ≤ n → n ≤ l → passes (held_by a) (payload_at n m) ≡ true
 unfolding unheld
-unheld_none a f l m w h = gap_none (held_by a) f l m (sym (gap_from_start (held_by a) f l m w) ∙ h)
+unheld_none a f l m w h = gap_none (held_by a) f l m (sym (failing_is_gap_by 0 (2 ^ 62) m w (held_by a) f l) ∙ h)
 
 module _ {P : Type 0} where
   head_at : (n : ℕ) (x e : Entry P) (m : List (Entry P)) → n ≤ x.last → at n (x ∷ m) ≡ Some e → (x ≡ e) × (x.first ≤ n)

@@ -9,4 +9,3 @@ pub mod Overdue
 pub mod Presence
 pub mod Sizes
 pub mod Verdicts
-pub mod Walks

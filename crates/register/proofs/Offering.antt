@@ -10,14 +10,14 @@ use Rattle.order_file.specs.declared.checked.OfferTerms.{OfferTerms}
 use Rattle.order_file.specs.declared.orders.MakeOffer.{MakeOffer}
 use Rattle.range_map.specs.Map.{change_answer}
 use Rattle.range_map.specs.Placed.{rest, uncovered, cuts_in}
-use Rattle.range_map.specs.Plain.{bad, gap}
+use Rattle.range_map.specs.Plain.{bad, gap, gap_by}
 use Rattle.range_map.specs.Replies.{change_reply}
 use Rattle.range_map.specs.declared.entry.Entry.{Entry}
 use Rattle.range_map.specs.declared.fault.MapFault.{MapFault}
 use Rattle.range_map.specs.declared.fault.MapFault.TheVariants as range
 use Rattle.register.specs.Checks.{bad_at, account_known, holds, has_row, cuts_fit, not_held_at, offer_checks, to_itself}
 use Rattle.register.specs.Faults.{unless}
-use Rattle.register.specs.Holdings.{held_by, gap_by, unheld}
+use Rattle.register.specs.Holdings.{held_by, unheld}
 use Rattle.register.specs.State.{State}
 use Rattle.register.specs.declared.faults.Fault.{Fault}
 use Rattle.register.specs.declared.faults.Fault.TheVariants.{Map}

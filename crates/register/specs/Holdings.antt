@@ -1,6 +1,6 @@
 -- Standings by range: who holds what, what becomes of an offer's numbers, and of held ones past their term.
 -- Assumes nothing.
-use Rattle.std.specs.Prelude.{ℕ, ◌+◌, min, Bool, true, false, cond, not, ◌&&◌, ◌||◌, List, [], ◌∷◌, Some, None, Option, ◌==◌, nat_lt}
+use Rattle.std.specs.Prelude.{ℕ, ◌+◌, min, Bool, true, false, cond, not, ◌&&◌, List, [], ◌∷◌, Some, None, Option, ◌==◌}
 use Rattle.figures.specs.Limits.{most_total}
 use Rattle.figures.specs.declared.accounts.Account.{Account}
 use Rattle.books.specs.Changes.{posted}
@@ -8,6 +8,7 @@ use Rattle.books.specs.Ledger.{Ledger}
 use Rattle.books.specs.declared.changes.Change.TheVariants.{Up, Down}
 use Rattle.range_map.specs.Counts.{size}
 use Rattle.range_map.specs.Placed.{rest, payload_found}
+use Rattle.range_map.specs.Plain.{gap_by}
 use Rattle.range_map.specs.declared.entry.Entry.{Entry}
 use Rattle.register.specs.State.{is_account}
 use Rattle.register.specs.Terms.{overdue, lapsed}
@@ -32,13 +33,6 @@ offered_under k (Held b) = false
 offered_under k (Offered j) = j == k
 offered_under k (Cancelled s) = false
 offered_under k Expired = false
-
--- the first of the positions f to l that no entry covers or whose payload fails the test
-unfoldable pub gap_by : {P : Type 0} → (P → Bool) → ℕ → ℕ → List (Entry P) → Option ℕ
-gap_by t f l [] = Some f
-gap_by t f l (e ∷ m) =
-    cond (nat_lt e.last f) (gap_by t f l m)
-    (cond (nat_lt f e.first || not (t e.payload)) (Some f) (cond (nat_lt e.last l) (gap_by t (e.last + 1) l m) None))
 
 -- the first of the numbers f to l that the account does not hold
 unfoldable pub unheld : Account → ℕ → ℕ → List (Entry Standing) → Option ℕ
