@@ -79,10 +79,10 @@ impl<K: Key> Book<K> for BookHashed<'_, K> {
     }
 
     fn find(&self, key: K) -> Option<Row<K::Plain>> {
-        match self.probe_key(key) {
-            Probe::Found(at) => self.slots[at],
-            _ => None,
-        }
+        let Probe::Found(at) = self.probe_key(key) else {
+            return None;
+        };
+        self.slots[at]
     }
 
     fn count(&self) -> usize {

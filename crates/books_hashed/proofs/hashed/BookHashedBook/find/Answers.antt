@@ -6,8 +6,8 @@ use Rattle.books_hashed.specs.Hashed.{table_ledger}
 use Rattle.books_hashed.proofs.HashTables.{probe_absent, slot_key, slot_number, slot_totals}
 use Rattle.books_hashed.proofs.hashed.BookHashedBook.find.Goals as goal
 
-pub returns-in-Found : goal.returns-in-Found
-returns-in-Found g c =
+pub returns : goal.returns
+returns g c =
     let b = c.args.self.now in
     let sound = b.sound in
     let k = g.K.Key.plain c.args.key in
