@@ -2,7 +2,7 @@
 use Rattle.std.proofs.Common.{◌≡◌, ℕ, suc, ◌+◌, ◌%◌, ◌<◌, ◌≤◌, min, true, false, List, [], ◌∷◌, ◌++◌, length, get_or, take, drop, set, Some, None, Option, Ordering, sym, refl, ap, ◌∙◌, subst, ⊎_elim, mod-lt, arith}
 use Rattle.std.specs.Option.{option_map}
 use Rattle.std.proofs.lemmas.List.{get_or_default, get_or_past, get_or-set_same, get_or-set_other, length-set, set_split, set-get_or}
-use Rattle.std.proofs.lemmas.Bool.{cases_lt, cases_eq, cases_Bool, eq-eqb, lt-ltb, le-ltb}
+use Rattle.std.proofs.lemmas.Bool.{cases_lt, cases_eq, cases_Bool, eq-eqb, ltb-true, le-ltb}
 use Rattle.std.proofs.lemmas.Bool.Decides.{nat_tests}
 use Rattle.figures.specs.Accounts.{TotalOrder}
 use Rattle.figures.specs.Limits.{most_members}
@@ -98,8 +98,8 @@ module _ {P : Type 0} {order : P → P → Ordering} (lawful : TotalOrder order)
     pub table_count : length (table_ledger slots n).members ≡ n
     table_count = length_members held n slots sound.each
 
-    pub table_room : n < table_capacity slots → roomy (table_ledger slots n) ≡ true
-    table_room h = lt-ltb _ _ (omega (arith, table_count))
+    pub table_room : roomy (table_ledger slots n) ≡ true → n < table_capacity slots
+    table_room h = omega (arith, ltb-true _ _ h, table_count)
 
     pub table_no_room : table_capacity slots ≤ n → roomy (table_ledger slots n) ≡ false
     table_no_room h = le-ltb _ _ (omega (arith, table_count))
@@ -133,6 +133,11 @@ module _ {P : Type 0} {order : P → P → Ordering} (lawful : TotalOrder order)
       -- of the slot that was read
       pub slot_number : (o : Option (Row P)) → o ≡ get_or slots i None → option_map (λ r. r.number) o ≡ running_number (matches order k) (table_ledger slots n).members
       slot_number o read = let f = found_row k i found in ap (option_map (λ r. r.number)) (read ∙ f.1) ∙ table_number k i f.0 found f.1
+
+      pub slot_key : (o : Option (Row P)) → o ≡ get_or slots i None → option_map (λ r. r.key) o ≡ option_map (λ r. k) o
+      slot_key o read =
+          let f = found_row k i found in
+          ap (option_map (λ r. r.key)) (read ∙ f.1) ∙ ap Some (sym (matches_equal lawful k f.0.key f.2)) ∙ sym (ap (option_map (λ r. k)) (read ∙ f.1))
 
       pub slot_totals : (o : Option (Row P)) → o ≡ get_or slots i None → option_map (λ r. (r.first, r.second)) o ≡ totals (matches order k) (table_ledger slots n).members
       slot_totals o read = let f = found_row k i found in ap (option_map (λ r. (r.first, r.second))) (read ∙ f.1) ∙ table_totals k i f.0 found f.1

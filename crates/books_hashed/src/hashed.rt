@@ -1,9 +1,8 @@
 // A book that is a hash table with linear probing, for every kind of key.
-ghost use Rattle.std.specs.Prelude.{◌≡◌, ℕ, ◌+◌, ◌<◌, length, IfOk, nat_le};
-ghost use Rattle.std.specs.Option.{option_map};
-ghost use Rattle.books.specs.Ledger.{matches, running_number, totals as totals_in, empty_ledger};
+ghost use Rattle.std.specs.Prelude.{◌≡◌, ℕ, ◌<◌, true, length, IfOk};
+ghost use Rattle.books.specs.Ledger.{matches, roomy, empty_ledger};
 ghost use Rattle.books.specs.Faults.{forgotten, add_verdict};
-ghost use Rattle.books_hashed.specs.Hashed.{table_capacity, table_ledger, TableSound, TableSound-prop};
+ghost use Rattle.books_hashed.specs.Hashed.{table_ledger, TableSound, TableSound-prop};
 ghost use Rattle.books_hashed.specs.Probing.{probe_for};
 ghost use Rattle.books_hashed.specs.declared.probing.Probe.TheVariants.{Found, Free};
 
@@ -31,20 +30,6 @@ impl<'a, K: Key> BookHashed<'a, K> {
         BookHashed { slots, used: 0 }
     }
 
-    fn is_full(&self) -> bool
-        ensures full { result ≡ nat_le (table_capacity self.now.slots.now) self.now.used }
-    {
-        self.used >= self.capacity()
-    }
-
-    // The running number of the member that joins next.
-    fn next_number(&self) -> u64
-        requires room { self.now.used < table_capacity self.now.slots.now }
-        ensures next { result ≡ self.now.used + 1 }
-    {
-        self.used as u64 + 1
-    }
-
     fn probe_key(&self, key: K) -> Probe
         ensures ends { result ≡ probe_for K.Key.order K.Key.spread (K.Key.plain key) self.now.slots.now }
         ensures found_inside { (at : ℕ) → result ≡ Found at → at < length self.now.slots.now }
@@ -53,21 +38,10 @@ impl<'a, K: Key> BookHashed<'a, K> {
         probe_for::<K>(self.slots, key.to_plain())
     }
 
-    // The row of the key.
-    fn find(&self, key: K) -> Option<Row<K::Plain>>
-        ensures number { option_map (λ row. row.number) result ≡ running_number (matches K.Key.order (K.Key.plain key)) (table_ledger self.now.slots.now self.now.used).members }
-        ensures totals { option_map (λ row. (row.first, row.second)) result ≡ totals_in (matches K.Key.order (K.Key.plain key)) (table_ledger self.now.slots.now self.now.used).members }
-    {
-        match self.probe_key(key) {
-            Probe::Found(at) => self.slots[at],
-            _ => None,
-        }
-    }
-
     // The slot for a key that may join.
     fn vacancy(&self, key: K) -> Result<usize, BookFault>
         ensures verdict { forgotten result ≡ add_verdict K.Key.BOOK (matches K.Key.order (K.Key.plain key)) (table_ledger self.now.slots.now self.now.used) }
-        ensures slot { IfOk result (λ at. (self.now.used < table_capacity self.now.slots.now) × (probe_for K.Key.order K.Key.spread (K.Key.plain key) self.now.slots.now ≡ Free at)) }
+        ensures slot { IfOk result (λ at. (roomy (table_ledger self.now.slots.now self.now.used) ≡ true) × (probe_for K.Key.order K.Key.spread (K.Key.plain key) self.now.slots.now ≡ Free at)) }
     {
         match self.probe_key(key) {
             Probe::Found(_) => Err(BookFault::Present { book: K::BOOK }),
@@ -91,6 +65,7 @@ impl<K: Key> Book<K> for BookHashed<'_, K> {
         Ok(number)
     }
 
+    // In each book: the place that `vacancy` answers means nothing to callers, so the trait does not name it.
     fn vet_add(&self, key: K) -> Result<(), BookFault> {
         self.vacancy(key).map(|_| ())
     }
@@ -103,12 +78,11 @@ impl<K: Key> Book<K> for BookHashed<'_, K> {
         Ok(())
     }
 
-    fn running_number(&self, key: K) -> Option<u64> {
-        self.find(key).map(|row| row.number)
-    }
-
-    fn totals(&self, key: K) -> Option<(u64, u64)> {
-        self.find(key).map(|row| (row.first, row.second))
+    fn find(&self, key: K) -> Option<Row<K::Plain>> {
+        let Probe::Found(at) = self.probe_key(key) else {
+            return None;
+        };
+        self.slots[at]
     }
 
     fn count(&self) -> usize {

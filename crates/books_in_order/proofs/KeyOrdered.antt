@@ -1,9 +1,9 @@
 -- Books in key order: what a place found, a row put in and a row rewritten mean. Assumes nothing.
-use Rattle.std.proofs.Common.{◌≡◌, ℕ, zero, suc, ◌+◌, ◌-◌, ◌<◌, ◌≤◌, min, true, false, List, [], ◌∷◌, ◌++◌, length, get_or, take, drop, set, Some, Ok, Err, Ordering, Less, sym, refl, ap, ◌∙◌, subst, ⊎_elim, arith}
+use Rattle.std.proofs.Common.{◌≡◌, ℕ, zero, suc, ◌+◌, ◌-◌, ◌<◌, min, true, false, List, [], ◌∷◌, ◌++◌, length, get_or, take, drop, set, Some, Ok, Err, Ordering, Less, sym, refl, ap, ◌∙◌, subst, ⊎_elim, arith}
 use Rattle.std.specs.List.{insert}
 use Rattle.std.proofs.lemmas.List.Edits.{length-insert, get_or-insert_below, get_or-insert_at, get_or-insert_above}
 use Rattle.std.proofs.lemmas.List.{take-append-drop, length-take-le, get_or-take, get_or_default, get_or-set_same, get_or-set_other, length-set}
-use Rattle.std.proofs.lemmas.Bool.{cases_lt, cases_eq, lt-ltb, le-ltb}
+use Rattle.std.proofs.lemmas.Bool.{cases_lt, cases_eq, ltb-true}
 use Rattle.figures.specs.Accounts.{TotalOrder}
 use Rattle.figures.specs.Limits.{most_members}
 use Rattle.books.specs.Ledger.{is_equal, matches, present, apart, running_number, totals, roomy, newcomer, enrolled, written_in}
@@ -12,7 +12,7 @@ use Rattle.books_in_order.specs.KeyOrder.{rises, Sought}
 use Rattle.books.specs.Rows.{member, ordered, Once, with_totals, joining}
 use Rattle.books.specs.declared.rows.Row.{Row}
 use Rattle.books.proofs.Found.{found_present, found_number, found_totals, found_changed, found_once, found_apart}
-use Rattle.books.proofs.Ledgers.{apart_push}
+use Rattle.books.proofs.Ledgers.{matches_equal, apart_push}
 use Rattle.books.proofs.Numbering.{ordered_absent, length_members}
 use Rattle.books_in_order.proofs.Rises.{Rising, from_rises, to_rises}
 use Rattle.books.proofs.RowEdits.{more_once, more_ordered}
@@ -121,6 +121,9 @@ module _ {P : Type 0} {order : P → P → Ordering} (lawful : TotalOrder order)
     matched : matches order k row.key ≡ true
     matched = ap (λ r. matches order k r.key) (read ∙ sym (get_or-take n slots i row place_in_use)) ∙ sought.1 row
 
+    pub read_key : Some row.key ≡ Some k
+    read_key = ap Some (sym (matches_equal lawful k row.key matched))
+
     pub read_number : Some row.number ≡ running_number (matches order k) (keyed_ledger slots n).members
     read_number = found_number Some lawful n (take n slots) sound.each sound.alone k i row row sought.0 held matched
 
@@ -197,8 +200,5 @@ module _ {P : Type 0} {order : P → P → Ordering} (slots : List (Row P)) (n :
   pub in_order_count : length (keyed_ledger slots n).members ≡ n
   in_order_count = length_members Some n (take n slots) sound.each
 
-  pub has_room : n < keyed_capacity slots → roomy (keyed_ledger slots n) ≡ true
-  has_room h = lt-ltb _ _ (omega (arith, in_order_count))
-
-  pub has_no_room : keyed_capacity slots ≤ n → roomy (keyed_ledger slots n) ≡ false
-  has_no_room h = le-ltb _ _ (omega (arith, in_order_count))
+  pub has_room : roomy (keyed_ledger slots n) ≡ true → n < keyed_capacity slots
+  has_room h = omega (arith, ltb-true _ _ h, in_order_count)

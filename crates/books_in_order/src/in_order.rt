@@ -1,9 +1,8 @@
 // A book whose rows lie in key order, for every kind of key.
-ghost use Rattle.std.specs.Prelude.{◌≡◌, ◌+◌, ◌<◌, length, take, IfOk, Some, Err, nat_le};
-ghost use Rattle.std.specs.Option.{option_map};
-ghost use Rattle.books.specs.Ledger.{matches, running_number, totals as totals_in, empty_ledger};
+ghost use Rattle.std.specs.Prelude.{◌≡◌, true, length, take, IfOk, Err};
+ghost use Rattle.books.specs.Ledger.{matches, roomy, empty_ledger};
 ghost use Rattle.books.specs.Faults.{forgotten, add_verdict};
-ghost use Rattle.books_in_order.specs.InOrder.{keyed_capacity, keyed_ledger, KeyedSound, KeyedSound-prop};
+ghost use Rattle.books_in_order.specs.InOrder.{keyed_ledger, KeyedSound, KeyedSound-prop};
 ghost use Rattle.books_in_order.specs.KeyOrder.{Sought};
 
 use crate::key_order::insert;
@@ -36,20 +35,6 @@ impl<'a, K: Key> BookInOrder<'a, K> {
         &self.rows[..self.used]
     }
 
-    fn is_full(&self) -> bool
-        ensures full { result ≡ nat_le (keyed_capacity self.now.rows.now) self.now.used }
-    {
-        self.used >= self.capacity()
-    }
-
-    // The running number of the member that joins next.
-    fn next_number(&self) -> u64
-        requires room { self.now.used < keyed_capacity self.now.rows.now }
-        ensures next { result ≡ self.now.used + 1 }
-    {
-        self.used as u64 + 1
-    }
-
     // The row of the key, or the place where it belongs.
     fn seek_key(&self, key: K) -> Result<usize, usize>
         ensures sought { Sought K.Key.order (K.Key.plain key) (take self.now.used self.now.rows.now) result }
@@ -58,21 +43,10 @@ impl<'a, K: Key> BookInOrder<'a, K> {
             .binary_search_by_key(&key.to_plain(), |row| row.key)
     }
 
-    // The row of the key.
-    fn find(&self, key: K) -> Option<Row<K::Plain>>
-        ensures number { option_map (λ row. row.number) result ≡ running_number (matches K.Key.order (K.Key.plain key)) (keyed_ledger self.now.rows.now self.now.used).members }
-        ensures totals { option_map (λ row. (row.first, row.second)) result ≡ totals_in (matches K.Key.order (K.Key.plain key)) (keyed_ledger self.now.rows.now self.now.used).members }
-    {
-        let Ok(at) = self.seek_key(key) else {
-            return None;
-        };
-        Some(self.rows[at])
-    }
-
     // The place of a key that may join.
     fn vacancy(&self, key: K) -> Result<usize, BookFault>
         ensures verdict { forgotten result ≡ add_verdict K.Key.BOOK (matches K.Key.order (K.Key.plain key)) (keyed_ledger self.now.rows.now self.now.used) }
-        ensures place { IfOk result (λ p. (self.now.used < keyed_capacity self.now.rows.now) × Sought K.Key.order (K.Key.plain key) (take self.now.used self.now.rows.now) (Err p)) }
+        ensures place { IfOk result (λ p. (roomy (keyed_ledger self.now.rows.now self.now.used) ≡ true) × Sought K.Key.order (K.Key.plain key) (take self.now.used self.now.rows.now) (Err p)) }
     {
         let Err(place) = self.seek_key(key) else {
             return Err(BookFault::Present { book: K::BOOK });
@@ -97,6 +71,7 @@ impl<K: Key> Book<K> for BookInOrder<'_, K> {
         Ok(number)
     }
 
+    // In each book: the place that `vacancy` answers means nothing to callers, so the trait does not name it.
     fn vet_add(&self, key: K) -> Result<(), BookFault> {
         self.vacancy(key).map(|_| ())
     }
@@ -109,12 +84,11 @@ impl<K: Key> Book<K> for BookInOrder<'_, K> {
         Ok(())
     }
 
-    fn running_number(&self, key: K) -> Option<u64> {
-        self.find(key).map(|row| row.number)
-    }
-
-    fn totals(&self, key: K) -> Option<(u64, u64)> {
-        self.find(key).map(|row| (row.first, row.second))
+    fn find(&self, key: K) -> Option<Row<K::Plain>> {
+        let Ok(at) = self.seek_key(key) else {
+            return None;
+        };
+        Some(self.rows[at])
     }
 
     fn count(&self) -> usize {

@@ -1,9 +1,9 @@
 use Rattle.std.proofs.Common.{sym, ◌∙◌, arith}
-use Rattle.std.proofs.lemmas.Bool.{leb-true, leb-false}
+use Rattle.std.proofs.lemmas.Bool.{not-true, not-false}
 use Rattle.books.specs.Ledger.{matches}
 use Rattle.books.proofs.Verdicts.{refused_present, refused_full, allowed}
 use Rattle.books_hashed.specs.Hashed.{table_ledger}
-use Rattle.books_hashed.proofs.HashTables.{probe_present, probe_absent, full_table, table_room, table_no_room}
+use Rattle.books_hashed.proofs.HashTables.{probe_present, probe_absent, full_table, table_no_room}
 use Rattle.books_hashed.proofs.Probes.{free_found, full_found}
 use Rattle.books_hashed.proofs.hashed.BookHashed.vacancy.Goals as goal
 
@@ -37,7 +37,7 @@ returns-in-Free-clause-verdict g c =
     let is = matches g.K.Key.order k in
     let l = table_ledger b.slots.now b.used in
     let none = probe_absent g.met.K.Key.total g.K.Key.spread b.slots.now sound.settled k b.used (λ i e. free_found (c.in-Free.ensures.ends ∙ e)) in
-    let full = table_no_room g.met.K.Key.total g.K.Key.spread b.slots.now b.used sound (leb-true _ _ (sym c.if-is_full.ensures.full)) in
+    let full = not-true _ (sym c.if-is_full.ensures.full) in
     refused_full is l c.BOOK-in-Free.ensures tt none full
 
 pub returns-in-Free-2 : goal.returns-in-Free-2
@@ -48,5 +48,5 @@ returns-in-Free-2 g c =
     let is = matches g.K.Key.order k in
     let l = table_ledger b.slots.now b.used in
     let none = probe_absent g.met.K.Key.total g.K.Key.spread b.slots.now sound.settled k b.used (λ i e. free_found (c.in-Free.ensures.ends ∙ e)) in
-    let less = leb-false _ _ (sym c.if-is_full.ensures.full) in
-    record { verdict = allowed is l g.K.Key.BOOK tt none (table_room g.met.K.Key.total g.K.Key.spread b.slots.now b.used sound less); slot = (less, sym c.in-Free.ensures.ends) }
+    let room = not-false _ (sym c.if-is_full.ensures.full) in
+    record { verdict = allowed is l g.K.Key.BOOK tt none room; slot = (room, sym c.in-Free.ensures.ends) }

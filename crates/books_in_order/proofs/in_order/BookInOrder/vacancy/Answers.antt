@@ -1,9 +1,9 @@
 use Rattle.std.proofs.Common.{take, sym}
 use Rattle.books.specs.Ledger.{matches}
-use Rattle.std.proofs.lemmas.Bool.{leb-true, leb-false}
+use Rattle.std.proofs.lemmas.Bool.{not-true, not-false}
 use Rattle.books.proofs.Verdicts.{refused_present, refused_full, allowed}
 use Rattle.books_in_order.specs.InOrder.{keyed_ledger}
-use Rattle.books_in_order.proofs.KeyOrdered.{sought_absent, sought_present, has_room, has_no_room}
+use Rattle.books_in_order.proofs.KeyOrdered.{sought_absent, sought_present}
 use Rattle.books_in_order.proofs.in_order.BookInOrder.vacancy.Goals as goal
 
 pub returns-in_default : goal.returns-in_default
@@ -24,7 +24,7 @@ returns-then-is_full g c =
     let is = matches g.K.Key.order k in
     let l = keyed_ledger b.rows.now b.used in
     let none = sought_absent g.met.K.Key.total k (take b.used b.rows.now) _ c.in-Err.ensures.sought b.used in
-    let full = has_no_room b.rows.now b.used sound (leb-true _ _ (sym c.if-is_full.ensures.full)) in
+    let full = not-true _ (sym c.if-is_full.ensures.full) in
     record { verdict = refused_full is l c.BOOK-then-is_full.ensures tt none full; place = tt }
 
 pub returns : goal.returns
@@ -35,5 +35,5 @@ returns g c =
     let is = matches g.K.Key.order k in
     let l = keyed_ledger b.rows.now b.used in
     let none = sought_absent g.met.K.Key.total k (take b.used b.rows.now) _ c.in-Err.ensures.sought b.used in
-    let less = leb-false _ _ (sym c.if-is_full.ensures.full) in
-    record { verdict = allowed is l g.K.Key.BOOK tt none (has_room b.rows.now b.used sound less); place = (less, c.in-Err.ensures.sought) }
+    let room = not-false _ (sym c.if-is_full.ensures.full) in
+    record { verdict = allowed is l g.K.Key.BOOK tt none room; place = (room, c.in-Err.ensures.sought) }

@@ -3,11 +3,11 @@ use Rattle.std.proofs.lemmas.List.{get_or_default}
 use Rattle.books.specs.Ledger.{matches}
 use Rattle.books.proofs.Found.{number_none, totals_none}
 use Rattle.books_hashed.specs.Hashed.{table_ledger}
-use Rattle.books_hashed.proofs.HashTables.{probe_absent, slot_number, slot_totals}
-use Rattle.books_hashed.proofs.hashed.BookHashed.find.Goals as goal
+use Rattle.books_hashed.proofs.HashTables.{probe_absent, slot_key, slot_number, slot_totals}
+use Rattle.books_hashed.proofs.hashed.BookHashedBook.find.Goals as goal
 
-pub returns-in-Found : goal.returns-in-Found
-returns-in-Found g c =
+pub returns : goal.returns
+returns g c =
     let b = c.args.self.now in
     let sound = b.sound in
     let k = g.K.Key.plain c.args.key in
@@ -18,6 +18,7 @@ returns-in-Found g c =
     let slot = get_or b.slots.now at c.index-self-at.result in
     let read : slot ≡ get_or b.slots.now at None = get_or_default b.slots.now at c.index-self-at.result None (c.in-Found.ensures.found_inside at refl) in
     record {
+      key = slot_key g.met.K.Key.total g.K.Key.spread b.slots.now b.used sound k at found slot read;
       number = slot_number g.met.K.Key.total g.K.Key.spread b.slots.now b.used sound k at found slot read;
       totals = slot_totals g.met.K.Key.total g.K.Key.spread b.slots.now b.used sound k at found slot read;
     }
@@ -30,4 +31,4 @@ returns-in_default g c =
     let is = matches g.K.Key.order k in
     let l = table_ledger b.slots.now b.used in
     let none = probe_absent g.met.K.Key.total g.K.Key.spread b.slots.now sound.settled k b.used (λ i e. c.in_default.not-Found i (c.probe_key.ensures.ends ∙ e)) in
-    record { number = number_none is l.members none; totals = totals_none is l.members none }
+    record { key = refl; number = number_none is l.members none; totals = totals_none is l.members none }
