@@ -13,6 +13,7 @@ use Rattle.register.specs.Runs.{settled}
 use Rattle.register.specs.State.{MapOf, State}
 use Rattle.register.specs.declared.day.DayFigures.{DayFigures}
 use Rattle.register.specs.declared.faults.Fault.{Fault}
+use Rattle.register.specs.declared.registers.Register.{Register}
 use Rattle.register.specs.declared.rows.Standing.{Standing}
 use Rattle.register.specs.declared.tables.Tables.{Tables}
 
@@ -35,6 +36,10 @@ state_of opened day accounts devices tables = record {
   offers = tables.offers.now;
   cancellations = tables.cancellations.now;
 }
+
+-- the register on a day, by what its books mean
+abbrev pub register_on : {A D : Type 0} → (A → Ledger Account) → (D → Ledger ℕ) → Bool → DayFigures → Register A D → State
+register_on accounts devices opened day r = state_of opened day (accounts r.accounts) (devices r.devices) r.tables
 
 abbrev pub answer_of : {X : Type 0} → Option Fault → X → Result X Fault
 answer_of None value = Ok value

@@ -3,7 +3,7 @@
 ghost use Rattle.std.specs.Prelude.{◌≡◌, true, false, is_ok};
 ghost use Rattle.register.specs.Bookings.{opening, registration};
 ghost use Rattle.register.specs.Checks.{opening_checks, registration_checks};
-ghost use Rattle.register.specs.Settled.{Settles, state_of, next_account, next_device};
+ghost use Rattle.register.specs.Settled.{Settles, register_on, next_account, next_device};
 
 use crate::day::OpenDay;
 use crate::faults::Fault;
@@ -19,7 +19,7 @@ impl OpenDay {
         register: &mut Register<'_, AccountBook, DeviceBook>,
         order: OpenAccount,
     ) -> Result<u64, Fault>
-        ensures settles { Settles (opening_checks order) next_account (opening order) (state_of true self.old.figures (AccountBook.Book.meaning register.old.accounts) (DeviceBook.Book.meaning register.old.devices) register.old.tables) result (state_of true self.new.figures (AccountBook.Book.meaning register.new.accounts) (DeviceBook.Book.meaning register.new.devices) register.new.tables) }
+        ensures settles { Settles (opening_checks order) next_account (opening order) (register_on AccountBook.Book.meaning DeviceBook.Book.meaning true self.old.figures register.old) result (register_on AccountBook.Book.meaning DeviceBook.Book.meaning true self.new.figures register.new) }
         ensures leaves_day { self.new ≡ self.old }
         ensures refusal_leaves_accounts { is_ok result ≡ false → register.new.accounts ≡ register.old.accounts }
         ensures leaves_devices { register.new.devices ≡ register.old.devices }
@@ -36,7 +36,7 @@ impl OpenDay {
         register: &mut Register<'_, AccountBook, DeviceBook>,
         order: RegisterDevice,
     ) -> Result<u64, Fault>
-        ensures settles { Settles (registration_checks order) next_device (registration order) (state_of true self.old.figures (AccountBook.Book.meaning register.old.accounts) (DeviceBook.Book.meaning register.old.devices) register.old.tables) result (state_of true self.new.figures (AccountBook.Book.meaning register.new.accounts) (DeviceBook.Book.meaning register.new.devices) register.new.tables) }
+        ensures settles { Settles (registration_checks order) next_device (registration order) (register_on AccountBook.Book.meaning DeviceBook.Book.meaning true self.old.figures register.old) result (register_on AccountBook.Book.meaning DeviceBook.Book.meaning true self.new.figures register.new) }
         ensures leaves_day { self.new ≡ self.old }
         ensures leaves_accounts { register.new.accounts ≡ register.old.accounts }
         ensures refusal_leaves_devices { is_ok result ≡ false → register.new.devices ≡ register.old.devices }

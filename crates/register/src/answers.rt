@@ -9,7 +9,7 @@ ghost use Rattle.register.specs.Bookings.{acceptance, recall, remake_in};
 ghost use Rattle.register.specs.Checks.{acceptance_checks, recall_checks, still_open_check};
 ghost use Rattle.register.specs.Faults.{fault_in, first_fault, unless};
 ghost use Rattle.register.specs.Holdings.{accepted, counted, first_overdue, given_back, recalled, under_offer};
-ghost use Rattle.register.specs.Settled.{Settles, map_of, state_of};
+ghost use Rattle.register.specs.Settled.{Settles, map_of, register_on};
 ghost use Rattle.register.specs.State.{is_account};
 ghost use Rattle.register.specs.declared.faults.Fault.TheVariants as fault;
 ghost use Rattle.register.specs.declared.answers.OfferCall.TheVariants as offerCall;
@@ -29,6 +29,8 @@ use figures::{Account, Device, MAX_MEMBERS};
 use order_file::{AcceptOffer, OfferAnswer, RecallOffer};
 use range_map::Entry;
 
+// An enum and no closure for each call: whose the call is, and what becomes of the offer, are told of both
+// calls side by side.
 #[derive(Clone, Copy, PartialEq, Eq, Debug)]
 pub(crate) enum OfferCall {
     Accept,
@@ -130,11 +132,9 @@ fn judge_answer<AccountBook: Book<Account>>(
     ensures open { IfOk result (λ f. f.state ≡ inThe.Open) }
 {
     check_member(accounts, answer.account)?;
-    let Some(offer) = find_offer(offers, made, answer.offer) else {
-        return Err(Fault::NoSuchOffer {
-            offer: answer.offer,
-        });
-    };
+    let offer = find_offer(offers, made, answer.offer).ok_or(Fault::NoSuchOffer {
+        offer: answer.offer,
+    })?;
     check_party(offer, call, answer.account)?;
     check_open(offer.state)?;
     Ok(offer)
@@ -227,7 +227,7 @@ fn judge_acceptance<AccountBook: Book<Account>, DeviceBook: Book<Device>>(
     register: &Register<'_, AccountBook, DeviceBook>,
     order: AcceptOffer,
 ) -> Result<Offer, Fault>
-    ensures verdict { fault_in result ≡ first_fault (acceptance_checks order (state_of true day (AccountBook.Book.meaning register.now.accounts) (DeviceBook.Book.meaning register.now.devices) register.now.tables)) }
+    ensures verdict { fault_in result ≡ first_fault (acceptance_checks order (register_on AccountBook.Book.meaning DeviceBook.Book.meaning true day register.now)) }
     ensures on_record { IfOk result (λ f. offer_at order.offer day.offers register.now.tables.offers.now ≡ Some f) }
     ensures open { IfOk result (λ f. f.state ≡ inThe.Open) }
 {
@@ -253,7 +253,7 @@ fn judge_recall<AccountBook: Book<Account>, DeviceBook: Book<Device>>(
     register: &Register<'_, AccountBook, DeviceBook>,
     order: RecallOffer,
 ) -> Result<Offer, Fault>
-    ensures verdict { fault_in result ≡ first_fault (recall_checks order (state_of true day (AccountBook.Book.meaning register.now.accounts) (DeviceBook.Book.meaning register.now.devices) register.now.tables)) }
+    ensures verdict { fault_in result ≡ first_fault (recall_checks order (register_on AccountBook.Book.meaning DeviceBook.Book.meaning true day register.now)) }
     ensures on_record { IfOk result (λ f. offer_at order.offer day.offers register.now.tables.offers.now ≡ Some f) }
     ensures open { IfOk result (λ f. f.state ≡ inThe.Open) }
 {
@@ -274,7 +274,7 @@ impl OpenDay {
         register: &mut Register<'_, AccountBook, DeviceBook>,
         order: AcceptOffer,
     ) -> Result<(), Fault>
-        ensures settles { Settles (acceptance_checks order) (λ _. tt) (acceptance order) (state_of true self.old.figures (AccountBook.Book.meaning register.old.accounts) (DeviceBook.Book.meaning register.old.devices) register.old.tables) result (state_of true self.new.figures (AccountBook.Book.meaning register.new.accounts) (DeviceBook.Book.meaning register.new.devices) register.new.tables) }
+        ensures settles { Settles (acceptance_checks order) (λ _. tt) (acceptance order) (register_on AccountBook.Book.meaning DeviceBook.Book.meaning true self.old.figures register.old) result (register_on AccountBook.Book.meaning DeviceBook.Book.meaning true self.new.figures register.new) }
         ensures leaves_day { self.new ≡ self.old }
         ensures refusal_leaves_accounts { is_ok result ≡ false → register.new.accounts ≡ register.old.accounts }
         ensures leaves_devices { register.new.devices ≡ register.old.devices }
@@ -292,7 +292,7 @@ impl OpenDay {
         register: &mut Register<'_, AccountBook, DeviceBook>,
         order: RecallOffer,
     ) -> Result<(), Fault>
-        ensures settles { Settles (recall_checks order) (λ _. tt) (recall order) (state_of true self.old.figures (AccountBook.Book.meaning register.old.accounts) (DeviceBook.Book.meaning register.old.devices) register.old.tables) result (state_of true self.new.figures (AccountBook.Book.meaning register.new.accounts) (DeviceBook.Book.meaning register.new.devices) register.new.tables) }
+        ensures settles { Settles (recall_checks order) (λ _. tt) (recall order) (register_on AccountBook.Book.meaning DeviceBook.Book.meaning true self.old.figures register.old) result (register_on AccountBook.Book.meaning DeviceBook.Book.meaning true self.new.figures register.new) }
         ensures leaves_day { self.new ≡ self.old }
         ensures refusal_leaves_accounts { is_ok result ≡ false → register.new.accounts ≡ register.old.accounts }
         ensures leaves_devices { register.new.devices ≡ register.old.devices }

@@ -3,6 +3,7 @@ use order_file::{
     AcceptOffer, Cancel, Declare, MakeOffer, NewDay, OpenAccount, RecallOffer, RegisterDevice,
 };
 
+// Cases of its own and no `Order` inside: a file has no order that closes a day.
 #[derive(Clone, Copy, PartialEq, Eq, Debug)]
 pub enum Call {
     Account(OpenAccount),

@@ -3,7 +3,7 @@ ghost use Rattle.std.specs.Prelude.{◌≡◌, true, false, length, is_ok, slice
 ghost use Rattle.order_file.specs.Checked.{plain_cancellation};
 ghost use Rattle.register.specs.Bookings.{change_in, cancellation_of, cancellation};
 ghost use Rattle.register.specs.Checks.{cancellation_checks};
-ghost use Rattle.register.specs.Settled.{map_of, state_of, Judged, Fits, Settles, next_serial};
+ghost use Rattle.register.specs.Settled.{map_of, register_on, Judged, Fits, Settles, next_serial};
 ghost use Rattle.register.specs.declared.rows.Standing.TheVariants.{Cancelled};
 
 use crate::checks::check_member;
@@ -24,7 +24,7 @@ impl OpenDay {
         register: &Register<'_, AccountBook, DeviceBook>,
         order: Cancel,
     ) -> Result<CancellationTerms, Fault>
-        ensures judged { Judged (cancellation_checks order (state_of true self.now.figures (AccountBook.Book.meaning register.now.accounts) (DeviceBook.Book.meaning register.now.devices) register.now.tables)) (λ t. (plain_cancellation t ≡ order) × Fits self.now.figures.cancellations (length register.now.tables.cancellations.now) t.numbers.first.0 t.numbers.last.0 register.now.tables.standings) result }
+        ensures judged { Judged (cancellation_checks order (register_on AccountBook.Book.meaning DeviceBook.Book.meaning true self.now.figures register.now)) (λ t. (plain_cancellation t ≡ order) × Fits self.now.figures.cancellations (length register.now.tables.cancellations.now) t.numbers.first.0 t.numbers.last.0 register.now.tables.standings) result }
     {
         let terms = order.check()?;
         check_member(&register.accounts, terms.account)?;
@@ -45,7 +45,7 @@ impl OpenDay {
         register: &mut Register<'_, AccountBook, DeviceBook>,
         order: Cancel,
     ) -> Result<u32, Fault>
-        ensures settles { Settles (cancellation_checks order) next_serial (cancellation order) (state_of true self.old.figures (AccountBook.Book.meaning register.old.accounts) (DeviceBook.Book.meaning register.old.devices) register.old.tables) result (state_of true self.new.figures (AccountBook.Book.meaning register.new.accounts) (DeviceBook.Book.meaning register.new.devices) register.new.tables) }
+        ensures settles { Settles (cancellation_checks order) next_serial (cancellation order) (register_on AccountBook.Book.meaning DeviceBook.Book.meaning true self.old.figures register.old) result (register_on AccountBook.Book.meaning DeviceBook.Book.meaning true self.new.figures register.new) }
         ensures refusal_leaves_day { is_ok result ≡ false → self.new ≡ self.old }
         ensures refusal_leaves_accounts { is_ok result ≡ false → register.new.accounts ≡ register.old.accounts }
         ensures leaves_devices { register.new.devices ≡ register.old.devices }

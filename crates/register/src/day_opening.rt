@@ -6,7 +6,7 @@ ghost use Rattle.register.specs.Answers.{Opened, StillClosed, lowered_for};
 ghost use Rattle.register.specs.Bookings.{remake_in};
 ghost use Rattle.register.specs.Faults.{fault_in, unless};
 ghost use Rattle.register.specs.Holdings.{expired as expired_by, lowered as lowered_by, lowered_all};
-ghost use Rattle.register.specs.Settled.{map_of, state_of};
+ghost use Rattle.register.specs.Settled.{map_of, register_on};
 ghost use Rattle.register.specs.declared.faults.Fault.TheVariants as fault;
 
 use crate::counts::size_of;
@@ -105,7 +105,7 @@ impl ClosedDay {
         register: &mut Register<'_, AccountBook, DeviceBook>,
         order: NewDay,
     ) -> Result<OpenDay, (Fault, ClosedDay)>
-        ensures settles { MatchResult result (λ day. Opened order (state_of false self.figures (AccountBook.Book.meaning register.old.accounts) (DeviceBook.Book.meaning register.old.devices) register.old.tables) (state_of true day.figures (AccountBook.Book.meaning register.new.accounts) (DeviceBook.Book.meaning register.new.devices) register.new.tables)) (λ refused. StillClosed order (state_of false self.figures (AccountBook.Book.meaning register.old.accounts) (DeviceBook.Book.meaning register.old.devices) register.old.tables) refused.0 self.figures refused.1.figures) }
+        ensures settles { MatchResult result (λ day. Opened order (register_on AccountBook.Book.meaning DeviceBook.Book.meaning false self.figures register.old) (register_on AccountBook.Book.meaning DeviceBook.Book.meaning true day.figures register.new)) (λ refused. StillClosed order (register_on AccountBook.Book.meaning DeviceBook.Book.meaning false self.figures register.old) refused.0 self.figures refused.1.figures) }
         ensures refusal_leaves_accounts { is_ok result ≡ false → register.new.accounts ≡ register.old.accounts }
         ensures leaves_devices { register.new.devices ≡ register.old.devices }
         ensures refusal_leaves_tables { is_ok result ≡ false → register.new.tables ≡ register.old.tables }

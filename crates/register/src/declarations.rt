@@ -7,7 +7,7 @@ ghost use Rattle.register.specs.Bookings.{declaration, entry, lay_into};
 ghost use Rattle.register.specs.Checks.{declaration_checks};
 ghost use Rattle.register.specs.Faults.{fault_in, first_fault};
 ghost use Rattle.register.specs.Issues.{Finds, Reckoned, day_checks, issuing, origin_of, period_of};
-ghost use Rattle.register.specs.Settled.{Judged, Settles, issued_count, map_of, state_of};
+ghost use Rattle.register.specs.Settled.{Judged, Settles, issued_count, map_of, register_on};
 ghost use Rattle.register.specs.State.{is_account};
 ghost use Rattle.register.specs.declared.rows.Standing.TheVariants.{Held};
 
@@ -35,6 +35,7 @@ fn check_days(today: u32, last: u32) -> Result<(), Fault>
     if last_valid < today {
         return Err(Fault::PastTerm {
             last_valid,
+            // A declared period has no number yet: the refusal returns 0.
             number: 0,
         });
     }
@@ -48,7 +49,7 @@ impl OpenDay {
         register: &Register<'_, AccountBook, DeviceBook>,
         order: Declare,
     ) -> Result<(Declaration, Issue), Fault>
-        ensures judged { Judged (declaration_checks order (state_of true self.now.figures (AccountBook.Book.meaning register.now.accounts) (DeviceBook.Book.meaning register.now.devices) register.now.tables)) (Reckoned order (state_of true self.now.figures (AccountBook.Book.meaning register.now.accounts) (DeviceBook.Book.meaning register.now.devices) register.now.tables) register.now.tables) result }
+        ensures judged { Judged (declaration_checks order (register_on AccountBook.Book.meaning DeviceBook.Book.meaning true self.now.figures register.now)) (Reckoned order (register_on AccountBook.Book.meaning DeviceBook.Book.meaning true self.now.figures register.now) register.now.tables) result }
     {
         let declaration = order.check()?;
         check_member(&register.devices, declaration.device)?;
@@ -65,7 +66,7 @@ impl OpenDay {
         register: &mut Register<'_, AccountBook, DeviceBook>,
         order: Declare,
     ) -> Result<CertificateCount, Fault>
-        ensures settles { Settles (declaration_checks order) (issued_count order) (declaration order) (state_of true self.old.figures (AccountBook.Book.meaning register.old.accounts) (DeviceBook.Book.meaning register.old.devices) register.old.tables) result (state_of true self.new.figures (AccountBook.Book.meaning register.new.accounts) (DeviceBook.Book.meaning register.new.devices) register.new.tables) }
+        ensures settles { Settles (declaration_checks order) (issued_count order) (declaration order) (register_on AccountBook.Book.meaning DeviceBook.Book.meaning true self.old.figures register.old) result (register_on AccountBook.Book.meaning DeviceBook.Book.meaning true self.new.figures register.new) }
         ensures refusal_leaves_day { is_ok result ≡ false → self.new ≡ self.old }
         ensures refusal_leaves_accounts { is_ok result ≡ false → register.new.accounts ≡ register.old.accounts }
         ensures refusal_leaves_devices { is_ok result ≡ false → register.new.devices ≡ register.old.devices }

@@ -14,7 +14,7 @@ use figures::{Account, Table};
 use order_file::NumberRange;
 use range_map::{RangeMap, Span};
 
-// The positions of these numbers.
+// The positions of these numbers. A function and no `From`, since both types are of other crates.
 pub(crate) fn span_of(numbers: NumberRange) -> Span
     ensures first { result.first ≡ numbers.first.0 }
     ensures last { result.last ≡ numbers.last.0 }

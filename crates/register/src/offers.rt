@@ -4,7 +4,7 @@ ghost use Rattle.order_file.specs.Checked.{plain_offer};
 ghost use Rattle.register.specs.Bookings.{change_in, offer_of, offering};
 ghost use Rattle.register.specs.Checks.{offer_checks, to_itself};
 ghost use Rattle.register.specs.Faults.{fault_in};
-ghost use Rattle.register.specs.Settled.{map_of, state_of, Judged, Fits, Settles, next_offer};
+ghost use Rattle.register.specs.Settled.{map_of, register_on, Judged, Fits, Settles, next_offer};
 ghost use Rattle.register.specs.declared.rows.Standing.TheVariants.{Offered};
 
 use crate::checks::check_member;
@@ -38,7 +38,7 @@ impl OpenDay {
         register: &Register<'_, AccountBook, DeviceBook>,
         order: MakeOffer,
     ) -> Result<OfferTerms, Fault>
-        ensures judged { Judged (offer_checks order (state_of true self.now.figures (AccountBook.Book.meaning register.now.accounts) (DeviceBook.Book.meaning register.now.devices) register.now.tables)) (λ t. (plain_offer t ≡ order) × Fits self.now.figures.offers (length register.now.tables.offers.now) t.numbers.first.0 t.numbers.last.0 register.now.tables.standings) result }
+        ensures judged { Judged (offer_checks order (register_on AccountBook.Book.meaning DeviceBook.Book.meaning true self.now.figures register.now)) (λ t. (plain_offer t ≡ order) × Fits self.now.figures.offers (length register.now.tables.offers.now) t.numbers.first.0 t.numbers.last.0 register.now.tables.standings) result }
     {
         let terms = order.check()?;
         check_parties(terms)?;
@@ -61,7 +61,7 @@ impl OpenDay {
         register: &mut Register<'_, AccountBook, DeviceBook>,
         order: MakeOffer,
     ) -> Result<u32, Fault>
-        ensures settles { Settles (offer_checks order) next_offer (offering order) (state_of true self.old.figures (AccountBook.Book.meaning register.old.accounts) (DeviceBook.Book.meaning register.old.devices) register.old.tables) result (state_of true self.new.figures (AccountBook.Book.meaning register.new.accounts) (DeviceBook.Book.meaning register.new.devices) register.new.tables) }
+        ensures settles { Settles (offer_checks order) next_offer (offering order) (register_on AccountBook.Book.meaning DeviceBook.Book.meaning true self.old.figures register.old) result (register_on AccountBook.Book.meaning DeviceBook.Book.meaning true self.new.figures register.new) }
         ensures refusal_leaves_day { is_ok result ≡ false → self.new ≡ self.old }
         ensures refusal_leaves_accounts { is_ok result ≡ false → register.new.accounts ≡ register.old.accounts }
         ensures leaves_devices { register.new.devices ≡ register.old.devices }

@@ -77,6 +77,7 @@ pub enum OfferState {
     Recalled,
 }
 
+// First and last stand apart in a row, which is plain: a checked range carries its limits in its type.
 #[derive(Clone, Copy, PartialEq, Eq, Debug)]
 pub struct Offer {
     pub from: Account,

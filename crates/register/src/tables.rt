@@ -10,6 +10,7 @@ pub struct Tables<'a> {
     pub periods: RangeMap<'a, Period>,
     pub origins: RangeMap<'a, Origin>,
     pub standings: RangeMap<'a, Standing>,
+    // How many of these are made is a figure of the day, which a closed day keeps without the tables.
     pub offers: &'a mut [Offer],
     pub cancellations: &'a mut [Cancellation],
 }

@@ -9,7 +9,8 @@ use crate::rows::{Origin, Standing};
 use calendar::last_valid_day;
 use range_map::{Entry, RangeMap};
 
-// A date, and the origins by which it is told what is past its term then.
+// A date, and the origins by which it is told what is past its term then. Neither compared nor printed,
+// since it holds a reference to a map.
 #[derive(Clone, Copy)]
 pub(crate) struct Today<'a, 'b> {
     pub(crate) date: u32,
