@@ -6,7 +6,7 @@ ghost use Rattle.register.specs.Checks.{cancellation_checks};
 ghost use Rattle.register.specs.Settled.{map_of, register_on, Judged, Fits, Settles, next_serial};
 ghost use Rattle.register.specs.declared.rows.Standing.TheVariants.{Cancelled};
 
-use crate::checks::check_member;
+use crate::checks::{RecordTable, check_member};
 use crate::day::{DayFigures, OpenDay};
 use crate::faults::Fault;
 use crate::numbers::{check_numbers, count_of, span_of};
@@ -32,9 +32,11 @@ impl OpenDay {
             &register.tables.standings,
             terms.account,
             terms.numbers,
-            Table::Cancellations,
-            self.figures.cancellations,
-            register.tables.cancellations.len(),
+            RecordTable {
+                table: Table::Cancellations,
+                used: self.figures.cancellations,
+                slots: register.tables.cancellations.len(),
+            },
         )?;
         Ok(terms)
     }

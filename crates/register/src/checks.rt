@@ -18,14 +18,24 @@ pub(crate) fn check_member<K: Key, B: Book<K>>(book: &B, key: K) -> Result<(), F
     Ok(())
 }
 
-// A record of its own finds a slot: of the slots at most 99,999,999 count.
-pub(crate) fn check_row(table: Table, used: u32, slots: usize) -> Result<(), Fault>
-    ensures verdict { fault_in result ≡ row_free table used slots }
-    ensures free { OnOk result (used < slots) }
-    ensures few { OnOk result (used < MAX_MEMBERS) }
-{
-    if used as usize >= slots.min(MAX_MEMBERS) {
-        return Err(Fault::Full { table });
+// A table of records: how many of its slots are used.
+#[derive(Clone, Copy, PartialEq, Eq, Debug)]
+pub(crate) struct RecordTable {
+    pub(crate) table: Table,
+    pub(crate) used: u32,
+    pub(crate) slots: usize,
+}
+
+impl RecordTable {
+    // A record of its own finds a slot: of the slots at most 99,999,999 count.
+    pub(crate) fn check_row(self) -> Result<(), Fault>
+        ensures verdict { fault_in result ≡ row_free self.table self.used self.slots }
+        ensures free { OnOk result (self.used < self.slots) }
+        ensures few { OnOk result (self.used < MAX_MEMBERS) }
+    {
+        if self.used as usize >= self.slots.min(MAX_MEMBERS) {
+            return Err(Fault::Full { table: self.table });
+        }
+        Ok(())
     }
-    Ok(())
 }

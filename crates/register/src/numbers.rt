@@ -6,11 +6,11 @@ ghost use Rattle.register.specs.Holdings.{unheld};
 ghost use Rattle.register.specs.Settled.{Judged, Fits};
 ghost use Rattle.register.specs.State.{range_size};
 
-use crate::checks::check_row;
+use crate::checks::RecordTable;
 use crate::faults::Fault;
 use crate::holdings::check_held;
 use crate::rows::Standing;
-use figures::{Account, Table};
+use figures::Account;
 use order_file::NumberRange;
 use range_map::{RangeMap, Span};
 
@@ -37,15 +37,13 @@ pub(crate) fn check_numbers(
     standings: &RangeMap<'_, Standing>,
     account: Account,
     numbers: NumberRange,
-    table: Table,
-    used: u32,
-    slots: usize,
+    records: RecordTable,
 ) -> Result<(), Fault>
-    ensures judged { Judged (not_held_at (unheld account numbers.first.0 numbers.last.0 (in_use standings.now)) ∷ row_free table used slots ∷ slots_for numbers.first.0 numbers.last.0 (slots_of standings.now) (in_use standings.now) ∷ []) (λ _. Fits used slots numbers.first.0 numbers.last.0 standings.now) result }
+    ensures judged { Judged (not_held_at (unheld account numbers.first.0 numbers.last.0 (in_use standings.now)) ∷ row_free records.table records.used records.slots ∷ slots_for numbers.first.0 numbers.last.0 (slots_of standings.now) (in_use standings.now) ∷ []) (λ _. Fits records.used records.slots numbers.first.0 numbers.last.0 standings.now) result }
 {
     let range = span_of(numbers);
     check_held(standings, account, range)?;
-    check_row(table, used, slots)?;
+    records.check_row()?;
     standings.check_change(range)?;
     Ok(())
 }

@@ -7,7 +7,7 @@ ghost use Rattle.register.specs.Faults.{fault_in};
 ghost use Rattle.register.specs.Settled.{map_of, register_on, Judged, Fits, Settles, next_offer};
 ghost use Rattle.register.specs.declared.rows.Standing.TheVariants.{Offered};
 
-use crate::checks::check_member;
+use crate::checks::{RecordTable, check_member};
 use crate::day::OpenDay;
 use crate::faults::Fault;
 use crate::numbers::{check_numbers, count_of, span_of};
@@ -48,9 +48,11 @@ impl OpenDay {
             &register.tables.standings,
             terms.from,
             terms.numbers,
-            Table::Offers,
-            self.figures.offers,
-            register.tables.offers.len(),
+            RecordTable {
+                table: Table::Offers,
+                used: self.figures.offers,
+                slots: register.tables.offers.len(),
+            },
         )?;
         Ok(terms)
     }

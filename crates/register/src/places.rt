@@ -67,6 +67,5 @@ pub(crate) fn check_places(tables: &Tables<'_>, issue: Issue) -> Result<(), Faul
     ensures judged { Judged (free_checks issue (map_of tables.now.periods) (map_of tables.now.origins) (map_of tables.now.standings) ++ slot_checks issue (map_of tables.now.periods) (map_of tables.now.origins) (map_of tables.now.standings)) (λ _. Finds issue tables.now) result }
 {
     check_all_free(tables, issue)?;
-    check_slots(tables, issue)?;
-    Ok(())
+    check_slots(tables, issue)
 }
