@@ -111,9 +111,7 @@ impl ClosedDay {
         ensures refusal_leaves_tables { is_ok result ≡ false → register.new.tables ≡ register.old.tables }
     {
         let ClosedDay { figures } = self;
-        if let Err(fault) = check_date(figures.date, order.date) {
-            return Err((fault, ClosedDay { figures }));
-        }
+        check_date(figures.date, order.date).map_err(|fault| (fault, ClosedDay { figures }))?;
         expire(register, order.date);
         Ok(OpenDay {
             figures: DayFigures {
