@@ -9,8 +9,9 @@ ghost use Rattle.range_map.specs.declared.entry.Entry.{Entry as EntryOf};
 ghost use Rattle.range_map.specs.Plain.{change, cut, cuts, cuts_of, ends, lay, remade, repaid};
 
 use crate::entry::{Entry, Span};
-use crate::find::{begun, find};
+use crate::rising::RisingEntries;
 
+// Lent slots and no Vec: a map allocates nothing.
 #[derive(Drop)]
 pub struct Lent<'a, P> {
     pub(crate) slots: &'a mut [Entry<P>],
@@ -28,7 +29,7 @@ fn remake_each<P: Copy, F: Fn(Entry<P>) -> P>(entries: &mut [Entry<P>], becomes:
     }
 }
 
-// Those in front.
+// Those in front. Over slots and count: a method cannot lend `&mut self.slots[..used]` with its elements known.
 fn remake_front<P: Copy, F: Fn(Entry<P>) -> P>(slots: &mut [Entry<P>], used: usize, becomes: F)
     requires callable { F.IsAlwaysCallable becomes }
     requires fits { used ≤ length slots.old }
@@ -63,13 +64,22 @@ impl<'a, P: Copy> Lent<'a, P> {
         &self.slots[..self.used]
     }
 
+    pub(crate) fn rising(&self) -> RisingEntries<'_, P>
+        requires sound { LentSound self.now }
+        ensures { result.entries.now ≡ entries_in self.now }
+    {
+        RisingEntries {
+            entries: self.entries(),
+        }
+    }
+
     // The index of the first entry that ends at the position or past it.
     pub(crate) fn place_of(&self, position: u64) -> usize
         requires sound { LentSound self.now }
         ensures place { result ≡ place position (entries_in self.now) }
         ensures within { result ≤ self.now.used }
     {
-        find(self.entries(), position)
+        self.rising().find(position)
     }
 
     // One entry more, at index `i`: those from there on go one slot up.
@@ -126,8 +136,8 @@ impl<'a, P: Copy> Lent<'a, P> {
         ensures high { BeginBelow (range.last + 1) (entries_in self.now) result.1 }
         ensures within { (result.0 ≤ self.now.used) × (result.1 ≤ self.now.used) }
     {
-        let entries = self.entries();
-        (begun(entries, range.first), begun(entries, range.last + 1))
+        let entries = self.rising();
+        (entries.begun(range.first), entries.begun(range.last + 1))
     }
 
     // The payload for these entries.

@@ -9,6 +9,7 @@ mod judge;
 mod lent;
 mod map;
 mod operations;
+mod rising;
 
 pub use entry::{Entry, Payload, Span};
 pub use fault::{MapFault, Returned};

@@ -11,10 +11,9 @@ ghost use Rattle.range_map.specs.Replies.{plain_change, plain_lay};
 
 use crate::entry::{Entry, Payload, Span};
 use crate::fault::MapFault;
-use crate::find::{covering, first_failing, first_taken};
-use crate::judge::{judge_change, judge_lay};
 use crate::lent::Lent;
 use crate::map::RangeMap;
+use crate::rising::RisingEntries;
 
 impl<'a, P: Payload> RangeMap<'a, P> {
     // An empty map, whatever the slots hold.
@@ -77,7 +76,7 @@ impl<'a, P: Payload> RangeMap<'a, P> {
         ensures in_plain_words { result ≡ at position (in_use self.now) }
         ensures covering { Covering position (in_use self.now) result }
     {
-        covering(self.entries(), position)
+        self.rising().covering(position)
     }
 
     // The payload that a position has.
@@ -93,7 +92,7 @@ impl<'a, P: Payload> RangeMap<'a, P> {
         ensures as_placed { result ≡ taken range.first range.last (in_use self.now) }
         ensures in_plain_words { FirstTaken range.first range.last (in_use self.now) result }
     {
-        first_taken(self.entries(), range)
+        self.rising().first_taken(range)
     }
 
     // The first position of a range that no entry covers or whose payload fails the test. Told of each test that the calls compute.
@@ -103,7 +102,7 @@ impl<'a, P: Payload> RangeMap<'a, P> {
         ensures as_placed { (t : P → Bool) → ((p : P) (b : Bool) → F.post passes p b → b ≡ t p) → result ≡ gap_by t range.first range.last (rest range.first (in_use self.now)) }
         ensures in_plain_words { (t : P → Bool) → ((p : P) (b : Bool) → F.post passes p b → b ≡ t p) → result ≡ gap_by t range.first range.last (in_use self.now) }
     {
-        first_failing(self.entries(), range, passes)
+        self.rising().first_failing(range, passes)
     }
 
     // What `lay` would reply, with nothing changed.
@@ -112,7 +111,7 @@ impl<'a, P: Payload> RangeMap<'a, P> {
         ensures in_plain_words { result ≡ plain_lay P.TABLE (slots_of self.now) range.first range.last (in_use self.now) }
     {
         let slots = self.capacity();
-        judge_lay(self.entries(), slots, range)
+        self.rising().judge_lay(slots, range)
     }
 
     // What `change` would reply, with nothing changed.
@@ -123,7 +122,7 @@ impl<'a, P: Payload> RangeMap<'a, P> {
         ensures uncovered_means { bad range.first range.last ≡ false → FirstOpen range.first range.last (in_use self.now) (gap range.first range.last (in_use self.now)) }
     {
         let slots = self.capacity();
-        judge_change(self.entries(), slots, range)
+        self.rising().judge_change(slots, range)
     }
 
     // One entry more, in its place.
@@ -180,6 +179,13 @@ impl<'a, P: Payload> RangeMap<'a, P> {
         ensures slots_stay { slots_of self.new ≡ slots_of self.old }
     {
         self.inner.remake(becomes);
+    }
+
+    // The entries in use, with what is known of them.
+    fn rising(&self) -> RisingEntries<'_, P>
+        ensures { result.entries.now ≡ in_use self.now }
+    {
+        self.inner.rising()
     }
 
     // What is left of a call once its check has passed.

@@ -13,7 +13,7 @@ returns g c =
     let t = g.P.Payload.TABLE in
     let s = c.args.self.now in
     let slots = c.capacity-slots.ensures.all_slots in
-    let entries = c.entries.ensures.as_they_lie in
+    let entries = c.rising.ensures in
     let is = c.judge_change.ensures ∙ (λ j. plain_change t (slots j) f l (entries j)) in
     record {
       reply = is ∙ sym (change_answer_lem t (slots_of s) f l (in_use s) s.rising);

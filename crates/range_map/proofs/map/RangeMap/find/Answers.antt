@@ -11,7 +11,7 @@ returns g c =
     let n = c.args.position in
     let m = in_use c.args.self.now in
     let w = c.args.self.now.rising in
-    let is = c.covering.ensures ∙ ap (at n) c.entries.ensures.as_they_lie in
+    let is = c.covering.ensures ∙ ap (at n) c.rising.ensures in
     record {
       as_placed = is ∙ sym (found_is 0 (2 ^ 62) m w n);
       in_plain_words = is;

@@ -12,7 +12,7 @@ returns g c =
     let l = c.args.range.last in
     let m = in_use c.args.self.now in
     let w = c.args.self.now.rising in
-    let is = c.first_taken.ensures ∙ ap (hit f l) c.entries.ensures.as_they_lie in
+    let is = c.first_taken.ensures ∙ ap (hit f l) c.rising.ensures in
     record {
       as_placed = is ∙ sym (taken_is 0 (2 ^ 62) m w f l);
       in_plain_words = subst (FirstTaken f l m) (sym is) (hit_first f l 0 (2 ^ 62) m w);

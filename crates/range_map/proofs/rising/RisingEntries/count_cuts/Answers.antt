@@ -1,6 +1,6 @@
 use Rattle.std.proofs.Common.{arith}
 use Rattle.range_map.specs.Plain.{cuts_of}
-use Rattle.range_map.proofs.find.count_cuts.Goals as goal
+use Rattle.range_map.proofs.rising.RisingEntries.count_cuts.Goals as goal
 
 pub returns-clause-cuts : goal.returns-clause-cuts
 unfolding cuts_of

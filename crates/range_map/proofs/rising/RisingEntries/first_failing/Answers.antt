@@ -2,16 +2,16 @@ use Rattle.std.proofs.Common.{◌^◌, drop, sym, ap, ◌∙◌, subst}
 use Rattle.range_map.specs.Plain.{gap_by}
 use Rattle.range_map.proofs.Joining.{place_skipped}
 use Rattle.range_map.proofs.Stops.{Ahead, ahead_next, ahead_start, reached, walk_done, walk_end, walk_fails, walk_on, walk_open}
-use Rattle.range_map.proofs.find.first_failing.Goals as goal
-use Rattle.range_map.proofs.find.first_failing.Goals.{then-wanted-e-via-then-wanted-e, then-wanted-e-via-else-wanted-e+then-not-passes}
+use Rattle.range_map.proofs.rising.RisingEntries.first_failing.Goals as goal
+use Rattle.range_map.proofs.rising.RisingEntries.first_failing.Goals.{then-wanted-e-via-then-wanted-e, then-wanted-e-via-else-wanted-e+then-not-passes}
 
 pub loop-e-init : goal.loop-e-init
 loop-e-init g c =
-    let m = c.args.entries.now in
+    let m = c.args.self.now.entries.now in
     let f = c.args.range.first in
     record {
       left = λ t told. ap (gap_by t f c.args.range.last) c.ahead_of-e-items.ensures;
-      reach = subst (Ahead f) (sym (c.ahead_of-e-items.ensures ∙ ap (λ i. drop i m) (place_skipped f 0 (2 ^ 62) m c.requires.rising))) (ahead_start f 0 m c.requires.rising);
+      reach = subst (Ahead f) (sym (c.ahead_of-e-items.ensures ∙ ap (λ i. drop i m) (place_skipped f 0 (2 ^ 62) m c.args.self.now.rising))) (ahead_start f 0 m c.args.self.now.rising);
     }
 
 pub returns-then-wanted-e : goal.returns-then-wanted-e
