@@ -1,11 +1,13 @@
 -- What the moves and writes of an edit leave in the slots. Assumes nothing.
-use Rattle.std.proofs.Common.{◌≡◌, ℕ, zero, suc, ◌+◌, ◌-◌, ◌^◌, ◌<◌, ◌≤◌, List, [], ◌∷◌, ◌++◌, map, length, get_or, take, drop, set, sym, refl, ap, ◌∙◌, add-one, append_assoc, arith, length-drop, get_or-take}
+use Rattle.std.proofs.Common.{◌≡◌, ℕ, zero, suc, ◌+◌, ◌-◌, ◌^◌, ◌<◌, ◌≤◌, ltb, cond, Bor, MatchOption, Option, Some, None, subst, List, [], ◌∷◌, ◌++◌, map, length, get_or, take, drop, set, sym, refl, ap, ◌∙◌, add-one, append_assoc, arith, length-drop, get_or-take}
 use lib.Seq.{take-set-lt}
 use Rattle.std.specs.List.{copy_within, insert}
+use Rattle.std.specs.Option.{option_and_then, option_copied}
+use Rattle.std.specs.Slice.{IsItemAt}
 use Rattle.std.proofs.lemmas.List.{drop_all, take-take, take_more_set, drop-set-lt, take-append-drop, length-take-le}
 use Rattle.std.proofs.lemmas.List.Edits.{take-paste}
 use Rattle.std.proofs.lemmas.Slice.{between_is}
-use Rattle.std.proofs.lemmas.Bool.{ltb-true, ltb-false, le-leb, lt-leb, lt-ltb, le-ltb, and_from, and_left, and_right, cond-true, cond-false}
+use Rattle.std.proofs.lemmas.Bool.{ltb-true, ltb-false, le-leb, lt-leb, lt-ltb, le-ltb, and_from, and_left, and_right, cond-true, cond-false, cond_both}
 use Rattle.range_map.specs.declared.entry.Entry.{Entry}
 use Rattle.range_map.specs.Begun.{BeginBelow}
 use Rattle.range_map.specs.Lent.{paid_within}
@@ -119,3 +121,18 @@ module _ {P : Type 0} (xs : List (Entry P)) (used i n : ℕ) (fits : used ≤ le
         ∙ two_for_one (take used xs) i (below n e) (from n e) (omega (arith, length-take-le used xs fits))
         ∙ ap (λ l. take i (take used xs) ++ l) (sym (ap (head_cut n) here ∙ cond-true _ _ _ (lt-ltb _ n begun)))
         ∙ sym (cut_here 0 (2 ^ 62) (take used xs) w n i is)
+
+  -- what a read at i that keeps an entry begun before n tells
+  pub read_there : (m : List (Entry P)) → m ≡ take used xs → (o : Option (Bor (Entry P))) → IsItemAt m i o → (r r' : Option (Entry P)) → r ≡ option_and_then (λ e. cond (ltb e.first n) (Some e) None) (option_copied o) → r ≡ r'
+      → MatchOption r' ((take used xs ≡ cut n (take used xs)) × (cuts n (take used xs) ≡ 0)) (λ e. (i < used) × (e ≡ get_or xs i e) × (e.first < n))
+  read_there m at o item r r' is_read is_r = subst Tells (sym is_read ∙ is_r) (tells o (subst (λ k. IsItemAt k i o) at item))
+    where
+      Tells : Option (Entry P) → Type 0
+      Tells r = MatchOption r ((take used xs ≡ cut n (take used xs)) × (cuts n (take used xs) ≡ 0)) (λ e. (i < used) × (e ≡ get_or xs i e) × (e.first < n))
+
+      tells : (o : Option (Bor (Entry P))) → IsItemAt (take used xs) i o → Tells (option_and_then (λ e. cond (ltb e.first n) (Some e) None) (option_copied o))
+      tells None h = cut_none (omega (arith, length-take-le used xs fits, h.3))
+      tells (Some x) h =
+          let lt : i < used = omega (arith, length-take-le used xs fits, h.3.0) in
+          let read : x.now ≡ get_or xs i x.now = h.1 ∙ get_or-take used xs i x.now lt in
+          cond_both {A = Option (Entry P)} (ltb x.now.first n) _ _ Tells (λ t. (lt, read, ltb-true _ n t)) (λ t. cut_border x.now lt read (ltb-false _ n t))
