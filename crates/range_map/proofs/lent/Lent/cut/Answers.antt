@@ -1,35 +1,28 @@
-use Rattle.std.proofs.Common.{ltb, ap, ◌∙◌, refl, arith, rules, length-set}
-use Rattle.std.specs.Option.{option_and_then}
-use Rattle.range_map.proofs.Moves.{cut_adds, cut_inside, read_there}
-use Rattle.range_map.proofs.Stops.{filtered}
+use Rattle.std.proofs.Common.{◌∙◌, refl, arith, rules, length-set}
+use Rattle.range_map.proofs.Moves.{cut_inside, read_there}
 use Rattle.range_map.proofs.lent.Lent.cut.Goals as goal
 
 pub returns-in_default : goal.returns-in_default
 returns-in_default g c =
     let s = c.args.self.now in
     let n = c.args.n in
-    let read = filtered (λ e. ltb e.first n) _ c.copied.result _ (λ e b h. search rules) c.filter.ensures ∙ ap (option_and_then _) c.copied.ensures in
-    let h = read_there s.slots.now s.used c.place_of-i.result n c.requires.sound.fits c.requires.sound.rising c.place_of-i.ensures.place _ c.entries.ensures c.get.result c.get.ensures.lookup _ _ read c.in_default.is in
+    let h = read_there s.slots.now s.used c.place_of-i.result n c.requires.sound.fits c.requires.sound.rising c.place_of-i.ensures.place _ c.entries.ensures _ c.get.ensures.lookup _ _ _ c.copied.ensures _ (λ e b h. search rules) c.filter.ensures c.in_default.is in
     record { after = h.0; count = omega (arith, h.1); slots_stay = refl }
 
 pub insert-requires : goal.insert-requires
 insert-requires g c =
     let s = c.args.self.now in
     let n = c.args.n in
-    let read = filtered (λ e. ltb e.first n) _ c.copied.result _ (λ e b h. search rules) c.filter.ensures ∙ ap (option_and_then _) c.copied.ensures in
-    let h = read_there s.slots.now s.used c.place_of-i.result n c.requires.sound.fits c.requires.sound.rising c.place_of-i.ensures.place _ c.entries.ensures c.get.result c.get.ensures.lookup _ _ read c.in-Some.is in
-    let adds = cut_adds s.slots.now s.used c.place_of-i.result n c.requires.sound.fits c.requires.sound.rising c.place_of-i.ensures.place c.in-Some.e h.0 h.1 h.2 in
-    record { within = omega (arith, h.0); room = simp length-set (omega (arith, adds)) }
+    let h = read_there s.slots.now s.used c.place_of-i.result n c.requires.sound.fits c.requires.sound.rising c.place_of-i.ensures.place _ c.entries.ensures _ c.get.ensures.lookup _ _ _ c.copied.ensures _ (λ e b h. search rules) c.filter.ensures c.in-Some.is in
+    record { within = omega (arith, h.0); room = simp length-set (omega (arith, h.3)) }
 
 pub returns : goal.returns
 returns g c =
     let s = c.args.self.now in
     let n = c.args.n in
-    let read = filtered (λ e. ltb e.first n) _ c.copied.result _ (λ e b h. search rules) c.filter.ensures ∙ ap (option_and_then _) c.copied.ensures in
-    let h = read_there s.slots.now s.used c.place_of-i.result n c.requires.sound.fits c.requires.sound.rising c.place_of-i.ensures.place _ c.entries.ensures c.get.result c.get.ensures.lookup _ _ read c.in-Some.is in
-    let adds = cut_adds s.slots.now s.used c.place_of-i.result n c.requires.sound.fits c.requires.sound.rising c.place_of-i.ensures.place c.in-Some.e h.0 h.1 h.2 in
+    let h = read_there s.slots.now s.used c.place_of-i.result n c.requires.sound.fits c.requires.sound.rising c.place_of-i.ensures.place _ c.entries.ensures _ c.get.ensures.lookup _ _ _ c.copied.ensures _ (λ e b h. search rules) c.filter.ensures c.in-Some.is in
     record {
       after = cut_inside s.slots.now s.used c.place_of-i.result n c.requires.sound.fits c.requires.sound.rising c.place_of-i.ensures.place c.in-Some.e h.0 h.1 h.2 _ _ c.lower_part.ensures c.upper_part.ensures _ c.insert.ensures.after;
-      count = omega (arith, adds, c.insert.ensures.count);
+      count = omega (arith, h.3, c.insert.ensures.count);
       slots_stay = c.insert.ensures.slots_stay ∙ length-set _ _ _;
     }
