@@ -1,11 +1,14 @@
 -- What the moves and writes of an edit leave in the slots. Assumes nothing.
-use Rattle.std.proofs.Common.{◌≡◌, ℕ, zero, suc, ◌+◌, ◌-◌, ◌^◌, ◌<◌, ◌≤◌, List, [], ◌∷◌, ◌++◌, map, length, get_or, take, drop, set, sym, refl, ap, ◌∙◌, add-one, append_assoc, arith, length-drop, get_or-take}
+use Rattle.std.proofs.Common.{◌≡◌, ℕ, zero, suc, ◌+◌, ◌-◌, ◌^◌, ◌<◌, ◌≤◌, Bool, ltb, cond, Bor, MatchOption, Option, Some, None, subst, List, [], ◌∷◌, ◌++◌, map, length, get_or, take, drop, set, sym, refl, ap, ◌∙◌, add-one, append_assoc, arith, length-drop, get_or-take}
 use lib.Seq.{take-set-lt}
+use Rattle.std.specs.Bool.{then_some}
 use Rattle.std.specs.List.{copy_within, insert}
+use Rattle.std.specs.Option.{option_and_then, option_copied}
+use Rattle.std.specs.Slice.{IsItemAt}
 use Rattle.std.proofs.lemmas.List.{drop_all, take-take, take_more_set, drop-set-lt, take-append-drop, length-take-le}
 use Rattle.std.proofs.lemmas.List.Edits.{take-paste}
 use Rattle.std.proofs.lemmas.Slice.{between_is}
-use Rattle.std.proofs.lemmas.Bool.{ltb-true, ltb-false, le-leb, lt-leb, lt-ltb, le-ltb, and_from, and_left, and_right, cond-true, cond-false}
+use Rattle.std.proofs.lemmas.Bool.{ltb-true, ltb-false, le-leb, lt-leb, lt-ltb, le-ltb, and_from, and_left, and_right, cond-true, cond-false, cond_both}
 use Rattle.range_map.specs.declared.entry.Entry.{Entry}
 use Rattle.range_map.specs.Begun.{BeginBelow}
 use Rattle.range_map.specs.Lent.{paid_within}
@@ -14,7 +17,7 @@ use Rattle.range_map.specs.Map.{entry_of}
 use Rattle.range_map.specs.Placed.{head_cut, head_cuts}
 use Rattle.range_map.specs.Plain.{Between, below, cut, cuts, from, remade, repaid}
 use Rattle.range_map.proofs.Joining.{cut_here, cuts_here}
-use Rattle.range_map.proofs.Stops.{drop_read}
+use Rattle.range_map.proofs.Stops.{drop_read, filtered}
 
 module _ {X : Type 0} where
   set_last : (xs ys : List X) (i : ℕ) (x : X) → i < length xs → set (take (suc i) xs ++ ys) i x ≡ take i xs ++ (x ∷ ys)
@@ -96,7 +99,7 @@ module _ {P : Type 0} (xs : List (Entry P)) (used i n : ℕ) (fits : used ≤ le
   counts : (d : List (Entry P)) (k : ℕ) → drop i (take used xs) ≡ d → head_cuts n d ≡ k → cuts n (take used xs) ≡ k
   counts d k at adds = cuts_here 0 (2 ^ 62) (take used xs) w n i is ∙ ap (head_cuts n) at ∙ adds
 
-  pub cut_none : used ≤ i → (take used xs ≡ cut n (take used xs)) × (cuts n (take used xs) ≡ 0)
+  cut_none : used ≤ i → (take used xs ≡ cut n (take used xs)) × (cuts n (take used xs) ≡ 0)
   cut_none past =
       let at = drop_all i (take used xs) (omega (arith, length-take-le used xs fits)) in
       (kept [] at refl, counts [] 0 at refl)
@@ -105,12 +108,12 @@ module _ {P : Type 0} (xs : List (Entry P)) (used i n : ℕ) (fits : used ≤ le
     here : drop i (take used xs) ≡ e ∷ drop (i + 1) (take used xs)
     here = drop_read (take used xs) i e (omega (arith, length-take-le used xs fits)) (read_in xs used i e lt read)
 
-    pub cut_border : n ≤ e.first → (take used xs ≡ cut n (take used xs)) × (cuts n (take used xs) ≡ 0)
+    cut_border : n ≤ e.first → (take used xs ≡ cut n (take used xs)) × (cuts n (take used xs) ≡ 0)
     cut_border begun =
         let t = le-ltb _ n begun in
         (kept _ here (cond-false _ _ _ t), counts _ 0 here (cond-false _ _ _ t))
 
-    pub cut_adds : e.first < n → cuts n (take used xs) ≡ 1
+    cut_adds : e.first < n → cuts n (take used xs) ≡ 1
     cut_adds begun = counts _ 1 here (cond-true _ _ _ (lt-ltb _ n begun))
 
     pub cut_inside : e.first < n → (x y : Entry P) → x ≡ below n e → y ≡ from n e → (ys : List (Entry P)) → ys ≡ insert (take used (set xs i x)) (i + 1) y → ys ≡ cut n (take used xs)
@@ -119,3 +122,20 @@ module _ {P : Type 0} (xs : List (Entry P)) (used i n : ℕ) (fits : used ≤ le
         ∙ two_for_one (take used xs) i (below n e) (from n e) (omega (arith, length-take-le used xs fits))
         ∙ ap (λ l. take i (take used xs) ++ l) (sym (ap (head_cut n) here ∙ cond-true _ _ _ (lt-ltb _ n begun)))
         ∙ sym (cut_here 0 (2 ^ 62) (take used xs) w n i is)
+
+  -- what a read at i that keeps an entry begun before n tells
+  pub read_there :
+      (m : List (Entry P)) → m ≡ take used xs → (o : Option (Bor (Entry P))) → IsItemAt m i o → (c r r' : Option (Entry P)) → c ≡ option_copied o
+      → (R : Entry P → Bool → Type 0) → ((e : Entry P) (b : Bool) → R e b → b ≡ ltb e.first n) → MatchOption c (r ≡ None) (λ e. (b : Bool) × R e b × (r ≡ then_some b e)) → r ≡ r'
+      → MatchOption r' ((take used xs ≡ cut n (take used xs)) × (cuts n (take used xs) ≡ 0)) (λ e. (i < used) × (e ≡ get_or xs i e) × (e.first < n) × (cuts n (take used xs) ≡ 1))
+  read_there m at o item c r r' is_c R told left is_r = subst Tells (sym (filtered (λ e. ltb e.first n) R c r told left ∙ ap (option_and_then _) is_c) ∙ is_r) (tells o (subst (λ k. IsItemAt k i o) at item))
+    where
+      Tells : Option (Entry P) → Type 0
+      Tells r = MatchOption r ((take used xs ≡ cut n (take used xs)) × (cuts n (take used xs) ≡ 0)) (λ e. (i < used) × (e ≡ get_or xs i e) × (e.first < n) × (cuts n (take used xs) ≡ 1))
+
+      tells : (o : Option (Bor (Entry P))) → IsItemAt (take used xs) i o → Tells (option_and_then (λ e. cond (ltb e.first n) (Some e) None) (option_copied o))
+      tells None h = cut_none (omega (arith, length-take-le used xs fits, h.3))
+      tells (Some x) h =
+          let lt : i < used = omega (arith, length-take-le used xs fits, h.3.0) in
+          let read : x.now ≡ get_or xs i x.now = h.1 ∙ get_or-take used xs i x.now lt in
+          cond_both {A = Option (Entry P)} (ltb x.now.first n) _ _ Tells (λ t. let begun = ltb-true _ n t in (lt, read, begun, cut_adds x.now lt read begun)) (λ t. cut_border x.now lt read (ltb-false _ n t))

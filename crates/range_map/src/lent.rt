@@ -117,13 +117,14 @@ impl<'a, P: Copy> Lent<'a, P> {
         ensures slots_stay { slots_in self.new ≡ slots_in self.old }
     {
         let i = self.place_of(n);
-        if i >= self.used {
+        let Some(e) = self
+            .entries()
+            .get(i)
+            .copied()
+            .filter(|e| e.begins_before(n))
+        else {
             return;
-        }
-        let e = self.slots[i];
-        if e.first >= n {
-            return;
-        }
+        };
         self.slots[i] = e.lower_part(n);
         self.insert(i + 1, e.upper_part(n));
     }
