@@ -29,7 +29,7 @@ fn remake_each<P: Copy, F: Fn(Entry<P>) -> P>(entries: &mut [Entry<P>], becomes:
     }
 }
 
-// Those in front. Over slots and count: a method cannot lend `&mut self.slots[..used]` with its elements known.
+// Those in front. Over slots and count: where a method lends `&mut self.slots[..used]`, its proof has no name for the slots after.
 fn remake_front<P: Copy, F: Fn(Entry<P>) -> P>(slots: &mut [Entry<P>], used: usize, becomes: F)
     requires callable { F.IsAlwaysCallable becomes }
     requires fits { used ≤ length slots.old }
