@@ -23,8 +23,8 @@ pub trait Book<K: Key> {
     fn vet_add(&self, key: K) -> Result<(), BookFault>
         ensures verdict { result ≡ add_verdict K.Key.BOOK (matches K.Key.order (K.Key.plain key)) (meaning self.now) };
 
-    // The member of this key gets these totals, each read as at most its limit. Two figures, since callers
-    // reckon them apart.
+    // The member of this key gets these totals, each read as at most its limit.
+    // Two figures and no pair: contracts name each, and one caller reckons them apart.
     fn write_totals(&mut self, key: K, first: u64, second: u64) -> Result<(), BookFault>
         ensures answer { result ≡ write_verdict K.Key.BOOK (matches K.Key.order (K.Key.plain key)) (meaning self.old) }
         ensures after { meaning self.new ≡ write_after (matches K.Key.order (K.Key.plain key)) first second (meaning self.old) }

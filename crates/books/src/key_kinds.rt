@@ -22,7 +22,8 @@ fn pack(account: Account) -> u64
     ensures packed { result ≡ packed account }
 {
     let (first, second) = account.letters();
-    (u64::from(first) * 256 + u64::from(second)) * 4_294_967_296 + u64::from(account.number())
+    let letters = u16::from_be_bytes([first, second]);
+    u64::from(letters) * 4_294_967_296 + u64::from(account.number())
 }
 
 impl Key for Account {

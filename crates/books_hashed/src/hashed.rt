@@ -14,6 +14,7 @@ pub type AccountsHashed<'a> = BookHashed<'a, Account>;
 
 pub type DevicesHashed<'a> = BookHashed<'a, Device>;
 
+// Lent slots and no Vec: a book allocates nothing.
 #[derive(Drop)]
 pub struct BookHashed<'a, K: Key> {
     slots: &'a mut [Option<Row<K::Plain>>],
@@ -65,7 +66,8 @@ impl<K: Key> Book<K> for BookHashed<'_, K> {
         Ok(number)
     }
 
-    // In each book: the place that `vacancy` answers means nothing to callers, so the trait does not name it.
+    // In each book, as `add` and `capacity` are: they go through the book's own slots. The place that
+    // `vacancy` answers means nothing to callers, so the trait does not name it.
     fn vet_add(&self, key: K) -> Result<(), BookFault> {
         self.vacancy(key).map(|_| ())
     }

@@ -9,6 +9,7 @@ ghost use Rattle.books.specs.declared.rows.Row.{Row};
 use books::{Key, Row};
 
 // Where a probe ends: at the key, at a free slot before it met the key, or at neither after all slots.
+// Three ends and no Result: a free slot is an answer to some callers and an error to others.
 #[derive(Clone, Copy, PartialEq, Eq, Debug)]
 pub(crate) enum Probe {
     Found(usize),
@@ -22,6 +23,7 @@ fn glance<K: Key>(slot: Option<Row<K::Plain>>, key: K::Plain, at: usize) -> Opti
 {
     match slot {
         None => Some(Probe::Free(at)),
+        // By the order, of which a kind of key has a law.
         Some(row) if K::compare(key, row.key).is_eq() => Some(Probe::Found(at)),
         Some(_) => None,
     }
@@ -36,6 +38,7 @@ pub(crate) fn probe_for<K: Key>(slots: &[Option<Row<K::Plain>>], key: K::Plain) 
         return Probe::Full;
     }
     let home = (K::hashed(key) % count as u64) as usize;
+    // Over indices: as find_map, what the closure asks of its index stayed open.
     for at in (home..count).chain(0..home) {
         if let Some(end) = glance::<K>(slots[at], key, at) {
             return end;

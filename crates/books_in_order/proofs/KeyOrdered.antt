@@ -1,6 +1,7 @@
 -- Books in key order: what a place found, a row put in and a row rewritten mean. Assumes nothing.
-use Rattle.std.proofs.Common.{◌≡◌, ℕ, zero, suc, ◌+◌, ◌-◌, ◌<◌, min, true, false, List, [], ◌∷◌, ◌++◌, length, get_or, take, drop, set, Some, Ok, Err, Ordering, Less, sym, refl, ap, ◌∙◌, subst, ⊎_elim, arith}
+use Rattle.std.proofs.Common.{◌≡◌, ℕ, zero, suc, ◌+◌, ◌-◌, ◌<◌, min, true, false, List, [], ◌∷◌, ◌++◌, length, get_or, take, drop, set, Some, Ok, Err, Result, Ordering, Less, sym, refl, ap, ◌∙◌, subst, ⊎_elim, arith}
 use Rattle.std.specs.List.{insert}
+use Rattle.std.specs.Result.{is_ok}
 use Rattle.std.proofs.lemmas.List.Edits.{length-insert, get_or-insert_below, get_or-insert_at, get_or-insert_above}
 use Rattle.std.proofs.lemmas.List.{take-append-drop, length-take-le, get_or-take, get_or_default, get_or-set_same, get_or-set_other, length-set}
 use Rattle.std.proofs.lemmas.Bool.{cases_lt, cases_eq, ltb-true}
@@ -202,3 +203,8 @@ module _ {P : Type 0} {order : P → P → Ordering} (slots : List (Row P)) (n :
 
   pub has_room : roomy (keyed_ledger slots n) ≡ true → n < keyed_capacity slots
   has_room h = omega (arith, ltb-true _ _ h, in_order_count)
+
+-- of a place that came to nothing
+pub sought_nowhere : {P : Type 0} {order : P → P → Ordering} → TotalOrder order → (k : P) (xs : List (Row P)) (sought : Result ℕ ℕ) → Sought order k xs sought → is_ok sought ≡ false → (n : ℕ) → present (matches order k) (ordered Some n xs) ≡ false
+sought_nowhere lawful k xs (Ok i) found refused n = absurd (cc)
+sought_nowhere lawful k xs (Err p) found refused n = sought_absent lawful k xs p found n

@@ -13,6 +13,7 @@ pub type AccountsInOrder<'a> = BookInOrder<'a, Account>;
 
 pub type DevicesInOrder<'a> = BookInOrder<'a, Device>;
 
+// Lent slots and no Vec: a book allocates nothing.
 #[derive(Drop)]
 pub struct BookInOrder<'a, K: Key> {
     rows: &'a mut [Row<K::Plain>],
@@ -71,23 +72,22 @@ impl<K: Key> Book<K> for BookInOrder<'_, K> {
         Ok(number)
     }
 
-    // In each book: the place that `vacancy` answers means nothing to callers, so the trait does not name it.
+    // In each book, as `add` and `capacity` are: they go through the book's own slots. The place that
+    // `vacancy` answers means nothing to callers, so the trait does not name it.
     fn vet_add(&self, key: K) -> Result<(), BookFault> {
         self.vacancy(key).map(|_| ())
     }
 
     fn write_totals(&mut self, key: K, first: u64, second: u64) -> Result<(), BookFault> {
-        let Ok(at) = self.seek_key(key) else {
-            return Err(BookFault::Absent { book: K::BOOK });
-        };
+        let at = self
+            .seek_key(key)
+            .map_err(|_| BookFault::Absent { book: K::BOOK })?;
         self.rows[at] = self.rows[at].with_totals(first, second);
         Ok(())
     }
 
     fn find(&self, key: K) -> Option<Row<K::Plain>> {
-        let Ok(at) = self.seek_key(key) else {
-            return None;
-        };
+        let at = self.seek_key(key).ok()?;
         Some(self.rows[at])
     }
 

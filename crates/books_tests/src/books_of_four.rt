@@ -8,17 +8,11 @@ use figures::{Account, BookName, Device};
 use std::test::Fail;
 
 fn account(number: u32) -> Result<Account, Fail> {
-    let Some(account) = Account::new(b'A', b'A', number) else {
-        return Err(Fail::new("no account"));
-    };
-    Ok(account)
+    Account::new(b'A', b'A', number).ok_or_else(|| Fail::new("no account"))
 }
 
 fn device(digits: u64) -> Result<Device, Fail> {
-    let Some(device) = Device::new(digits) else {
-        return Err(Fail::new("no device"));
-    };
-    Ok(device)
+    Device::new(digits).ok_or_else(|| Fail::new("no device"))
 }
 
 fn accounts() -> Result<[Account; 5], Fail> {

@@ -16,21 +16,18 @@ pub struct Account {
 
 impl Account {
     // The account of these letters and this number, if they are lawful.
+    // An Option, since there is one reason to refuse: a TryFrom would add an error type that tells nothing.
     pub fn new(first: u8, second: u8, number: u32) -> Option<Account>
         ensures checked { result ≡ (if account_lawful first second number then Some (account_of first second number) else None) }
     {
-        if first.is_ascii_uppercase()
+        let lawful = first.is_ascii_uppercase()
             && second.is_ascii_uppercase()
-            && (1..=MAX_ACCOUNT_NUMBER).contains(&number)
-        {
-            Some(Account {
-                first,
-                second,
-                number,
-            })
-        } else {
-            None
-        }
+            && (1..=MAX_ACCOUNT_NUMBER).contains(&number);
+        lawful.then_some(Account {
+            first,
+            second,
+            number,
+        })
     }
 
     pub fn letters(&self) -> (u8, u8)

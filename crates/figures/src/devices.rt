@@ -50,6 +50,7 @@ impl Device {
         }
     }
 
+    // No From, whose clause would be a relation: contracts name the digits as a function of the device.
     pub fn digits(&self) -> u64
         ensures bare { result ≡ self.now.digits }
         ensures lawful { gs1 result ≡ true }

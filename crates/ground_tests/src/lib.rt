@@ -1,4 +1,4 @@
-// Runs of the ground layers: device numbers, the calendar, the order reader.
+// Runs of the ground layers: device numbers and the calendar.
 #![tactic(auto)]
 
 #[cfg(test)]

@@ -75,7 +75,8 @@ impl AcceptOffer {
 }
 
 impl RecallOffer {
-    // As of an acceptance, any offer number is lawful here.
+    // As of an acceptance, whose operands it has: the two types are kept apart (orders.rt). Any offer
+    // number is lawful here too.
     pub fn check(&self) -> Result<OfferAnswer, OperandFault>
         ensures refused_at { refused_at result ≡ bad_recall self.now }
         ensures checked { IfOk result (λ a. plain_recall a ≡ self.now) }

@@ -1,6 +1,7 @@
 // The command byte of each kind of order.
 ghost use Rattle.std.specs.Prelude.{◌≡◌};
 
+// Beside `Order`, since it says which order is to be read before there is one.
 #[derive(Clone, Copy, PartialEq, Eq, Debug)]
 pub(crate) enum Kind {
     Account,

@@ -1,5 +1,5 @@
 // A range of certificate numbers that keeps to the limits: the type carries them.
-ghost use Rattle.std.specs.Prelude.{◌≤◌};
+ghost use Rattle.std.specs.Prelude.{◌≡◌, ◌+◌, ◌-◌, ◌≤◌};
 ghost use Rattle.figures.specs.Limits.{last_certificate_number};
 
 use crate::operands::Checked;
@@ -12,6 +12,15 @@ pub struct NumberRange {
     ghost above_zero: { 1 ≤ first.0 },
     ghost rising: { first.0 ≤ last.0 },
     ghost within: { last.0 ≤ last_certificate_number },
+}
+
+impl NumberRange {
+    // How many certificates the range has; its own limits keep this from overflowing.
+    pub fn count(&self) -> u64
+        ensures count { result ≡ self.now.last.0 - self.now.first.0 + 1 }
+    {
+        self.last.0 - self.first.0 + 1
+    }
 }
 
 impl Checked for NumberRange {

@@ -17,8 +17,5 @@ pub fn read_order<'a>(bytes: &'a [u8], place: usize) -> Result<(Order, &'a [u8])
         return Err(ReadFault::CutShort { place });
     };
     let kind = Kind::try_from(*command).map_err(|_| ReadFault::UnknownCommand { place })?;
-    let Some(read) = split_order(kind, rest) else {
-        return Err(ReadFault::CutShort { place });
-    };
-    Ok(read)
+    split_order(kind, rest).ok_or(ReadFault::CutShort { place })
 }

@@ -22,6 +22,7 @@ impl Checked for Year {
     ghost plain = { λ year. year.year };
 
     fn checked(year: u16) -> Option<Year> {
+        // An if and no then_some: the literal owes its limits, which the branch knows.
         if (FIRST_YEAR..=LAST_YEAR).contains(&year) {
             Some(Year { year })
         } else {

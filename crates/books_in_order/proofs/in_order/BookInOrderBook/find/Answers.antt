@@ -1,31 +1,46 @@
-use Rattle.std.proofs.Common.{take, Some, sym, refl, ap, ◌∙◌}
+use Rattle.std.proofs.Common.{rules, ◌≡◌, false, take, Some, Ok, sym, ap, subst, ◌∙◌}
+use Rattle.std.specs.Option.{option_map}
+use Rattle.std.specs.Result.{is_ok}
 use Rattle.books.specs.Ledger.{matches}
 use Rattle.books.proofs.Found.{number_none, totals_none}
 use Rattle.books_in_order.specs.InOrder.{keyed_ledger}
-use Rattle.books_in_order.proofs.KeyOrdered.{sought_absent, read_key, read_number, read_totals}
+use Rattle.books_in_order.specs.KeyOrder.{Sought}
+use Rattle.books_in_order.proofs.KeyOrdered.{sought_nowhere, read_key, read_number, read_totals}
 use Rattle.books_in_order.proofs.in_order.BookInOrderBook.find.Goals as goal
 
-pub returns-in_default : goal.returns-in_default
-returns-in_default g c =
+pub returns-in_err-at-clause-number : goal.returns-in_err-at-clause-number
+returns-in_err-at-clause-number g c =
     let b = c.args.self.now in
     let sound = b.sound in
     let k = g.K.Key.plain c.args.key in
     let is = matches g.K.Key.order k in
     let l = keyed_ledger b.rows.now b.used in
-    let none = sought_absent g.met.K.Key.total k (take b.used b.rows.now) _ c.in_default.ensures.sought b.used in
-    record { key = refl; number = number_none is l.members none; totals = totals_none is l.members none }
+    let refused : is_ok c.seek_key.result ≡ false = search rules in
+    let none = sought_nowhere g.met.K.Key.total k (take b.used b.rows.now) c.seek_key.result c.seek_key.ensures.sought refused b.used in
+    ap (option_map (λ row. row.number)) c.from_residual.ensures ∙ number_none is l.members none
+
+pub returns-in_err-at-clause-totals : goal.returns-in_err-at-clause-totals
+returns-in_err-at-clause-totals g c =
+    let b = c.args.self.now in
+    let sound = b.sound in
+    let k = g.K.Key.plain c.args.key in
+    let is = matches g.K.Key.order k in
+    let l = keyed_ledger b.rows.now b.used in
+    let refused : is_ok c.seek_key.result ≡ false = search rules in
+    let none = sought_nowhere g.met.K.Key.total k (take b.used b.rows.now) c.seek_key.result c.seek_key.ensures.sought refused b.used in
+    ap (option_map (λ row. (row.first, row.second))) c.from_residual.ensures ∙ totals_none is l.members none
 
 pub returns : goal.returns
 returns g c =
     let b = c.args.self.now in
     let sound = b.sound in
     let k = g.K.Key.plain c.args.key in
-    let is = matches g.K.Key.order k in
-    let l = keyed_ledger b.rows.now b.used in
+    let found : c.seek_key.result ≡ Ok c.in_ok-at.at = search rules in
+    let sought = subst (Sought g.K.Key.order k (take b.used b.rows.now)) found c.seek_key.ensures.sought in
     let row = c.index-self-at.result in
     let read = sym c.index-self-at.is in
     record {
-      key = ap (λ r. Some r.key) read ∙ read_key g.met.K.Key.total k b.rows.now b.used c.in-Ok.at sound c.in-Ok.ensures.sought row c.index-self-at.is;
-      number = ap (λ r. Some r.number) read ∙ read_number g.met.K.Key.total k b.rows.now b.used c.in-Ok.at sound c.in-Ok.ensures.sought row c.index-self-at.is;
-      totals = ap (λ r. Some (r.first, r.second)) read ∙ read_totals g.met.K.Key.total k b.rows.now b.used c.in-Ok.at sound c.in-Ok.ensures.sought row c.index-self-at.is;
+      key = ap (λ r. Some r.key) read ∙ read_key g.met.K.Key.total k b.rows.now b.used c.in_ok-at.at sound sought row c.index-self-at.is;
+      number = ap (λ r. Some r.number) read ∙ read_number g.met.K.Key.total k b.rows.now b.used c.in_ok-at.at sound sought row c.index-self-at.is;
+      totals = ap (λ r. Some (r.first, r.second)) read ∙ read_totals g.met.K.Key.total k b.rows.now b.used c.in_ok-at.at sound sought row c.index-self-at.is;
     }
