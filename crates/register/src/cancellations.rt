@@ -9,7 +9,7 @@ ghost use Rattle.register.specs.declared.rows.Standing.TheVariants.{Cancelled};
 use crate::checks::{RecordTable, check_member};
 use crate::day::{DayFigures, OpenDay};
 use crate::faults::Fault;
-use crate::numbers::{check_numbers, count_of, span_of};
+use crate::numbers::{check_numbers, span_of};
 use crate::registers::Register;
 use crate::rows::{Cancellation, Standing};
 use crate::tables::Tables;
@@ -56,7 +56,7 @@ impl OpenDay {
         let terms = self.judge_cancellation(register, order)?;
         let serial = self.figures.cancellations + 1;
         use_up(&mut register.tables, self.figures, serial, terms);
-        let count = count_of(terms.numbers);
+        let count = terms.numbers.count();
         post(
             &mut register.accounts,
             Posting {

@@ -4,7 +4,6 @@ ghost use Rattle.range_map.specs.Map.{in_use, slots_of};
 ghost use Rattle.register.specs.Checks.{not_held_at, row_free, slots_for};
 ghost use Rattle.register.specs.Holdings.{unheld};
 ghost use Rattle.register.specs.Settled.{Judged, Fits};
-ghost use Rattle.register.specs.State.{range_size};
 
 use crate::checks::RecordTable;
 use crate::faults::Fault;
@@ -23,13 +22,6 @@ pub(crate) fn span_of(numbers: NumberRange) -> Span
         first: numbers.first.0,
         last: numbers.last.0,
     }
-}
-
-// How many they are.
-pub(crate) fn count_of(numbers: NumberRange) -> u64
-    ensures count { result ≡ range_size numbers.first.0 numbers.last.0 }
-{
-    numbers.last.0 - numbers.first.0 + 1
 }
 
 // Every number is held by the account; a slot is free for the record; the cuts find slots.

@@ -10,7 +10,7 @@ ghost use Rattle.register.specs.declared.rows.Standing.TheVariants.{Offered};
 use crate::checks::{RecordTable, check_member};
 use crate::day::OpenDay;
 use crate::faults::Fault;
-use crate::numbers::{check_numbers, count_of, span_of};
+use crate::numbers::{check_numbers, span_of};
 use crate::registers::Register;
 use crate::rows::{Offer, OfferState, Standing};
 use crate::tables::Tables;
@@ -72,7 +72,7 @@ impl OpenDay {
         let terms = self.judge_offer(register, order)?;
         let number = self.figures.offers + 1;
         set_aside(&mut register.tables, self.figures.offers, number, terms);
-        let count = count_of(terms.numbers);
+        let count = terms.numbers.count();
         post(
             &mut register.accounts,
             Posting {
