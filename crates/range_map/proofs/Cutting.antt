@@ -1,5 +1,5 @@
 -- What a cut, a change and a lay leave of a map: what each position has, the rising order, the number of entries. Assumes nothing.
-use Rattle.std.proofs.Common.{◌≡◌, ℕ, ◌+◌, ◌<◌, ◌≤◌, cond, ◌&&◌, ltb, leb, List, [], ◌∷◌, map, length, IfSome, Some, None, Option, sym, refl, ap, ◌∙◌, ⊎_elim, arith}
+use Rattle.std.proofs.Common.{◌≡◌, ℕ, ◌+◌, ◌<◌, ◌≤◌, cond, ◌&&◌, ltb, leb, List, [], ◌∷◌, ◌++◌, map, length, IfSome, Some, None, Option, sym, refl, ap, ◌∙◌, ⊎_elim, arith}
 use lib.ListN.{length-map}
 use Rattle.std.proofs.lemmas.Bool.{cases_lt, lt-ltb, le-ltb, ltb-true, ltb-false, lt-leb, leb-true, cond-true, cond-false, cond_both}
 use Rattle.std.proofs.lemmas.Bool.Decides.{nat_tests}
@@ -139,3 +139,14 @@ module _ {P : Type 0} where
       (w.0, w.1, w.2, between_lay x (e.last + 1) h m (omega arith) le high (sym (cond-true _ _ _ t) ∙ free) w.3))
       (λ t. let past = free_past x.first x.last e le (sym (cond-false _ _ _ t) ∙ free) in
       (low, le, high, (omega arith, w.1, w.2, w.3)))
+
+  -- past the last entry nothing is taken, and a lay stands at the end
+  pub hit_past : (f l b : ℕ) (m : List (Entry P)) → Between b f m → hit f l m ≡ None
+  unfolding hit
+  hit_past f l b [] w = refl
+  hit_past f l b (e ∷ m) w = cond-true _ _ _ (lt-ltb e.last f w.2) ∙ hit_past f l (e.last + 1) m w.3
+
+  pub lay_past : (x : Entry P) (b : ℕ) (m : List (Entry P)) → Between b x.first m → lay x m ≡ m ++ (x ∷ [])
+  unfolding lay
+  lay_past x b [] w = refl
+  lay_past x b (e ∷ m) w = cond-true _ _ _ (lt-ltb e.last x.first w.2) ∙ ap (λ r. e ∷ r) (lay_past x (e.last + 1) m w.3)

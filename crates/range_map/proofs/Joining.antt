@@ -84,7 +84,7 @@ module _ {P : Type 0} where
       let more = point_skipped n m i (omega arith) (λ k d low high. p.0 (suc k) d (omega arith) (omega arith), λ k d low high. p.1 (suc k) d (omega arith) (omega arith)) in
       ap suc more ∙ sym (cond-true _ _ _ (p.0 0 e (omega arith) (omega arith)))
 
-  lasts_from : (b h : ℕ) (m : List (Entry P)) (j : ℕ) (d : Entry P) → Between b h m → j < length m → (b ≤ (get_or m j d).first) × ((get_or m j d).first ≤ (get_or m j d).last)
+  pub lasts_from : (b h : ℕ) (m : List (Entry P)) (j : ℕ) (d : Entry P) → Between b h m → j < length m → (b ≤ (get_or m j d).first) × ((get_or m j d).first ≤ (get_or m j d).last)
   lasts_from b h [] j d w lt = absurd (omega arith)
   lasts_from b h (e ∷ m) zero d w lt = (w.0, w.1)
   lasts_from b h (e ∷ m) (suc j) d w lt = let more = lasts_from (e.last + 1) h m j d w.3 (omega arith) in (omega (arith, more.0), more.1)
@@ -217,7 +217,7 @@ module _ {P : Type 0} where
       ap (λ k. insert m k x) (is ∙ place_skipped x.first b h m w)
       ∙ sym (by_keeping x.first (lay x) (λ r. x ∷ r) refl (λ _ _. refl) m)
 
-  between_drop : (b h : ℕ) (m : List (Entry P)) (i : ℕ) → Between b h m → Between 0 h (drop i m)
+  pub between_drop : (b h : ℕ) (m : List (Entry P)) (i : ℕ) → Between b h m → Between 0 h (drop i m)
   between_drop b h m zero w = between_weaker 0 b h m (omega arith) w
   between_drop b h [] (suc i) w = tt
   between_drop b h (e ∷ m) (suc i) w = between_drop (e.last + 1) h m i w.3
@@ -234,7 +234,7 @@ module _ {P : Type 0} where
       (cases_lt e.last f)
 
   -- a cut further on leaves the place for f
-  skipped_cut : (f l : ℕ) (m : List (Entry P)) → f ≤ l → skipped f (cut (l + 1) m) ≡ skipped f m
+  pub skipped_cut : (f l : ℕ) (m : List (Entry P)) → f ≤ l → skipped f (cut (l + 1) m) ≡ skipped f m
   unfolding cut
   skipped_cut f l [] le = refl
   skipped_cut f l (e ∷ m) le = let i = skipped_cut f l m le in grind (arith, nat_tests)
@@ -290,6 +290,11 @@ module _ {P : Type 0} where
         ap (λ k. k + place (l + 1) (drop k m)) at
         ∙ ap (λ k. skipped f m + k) (place_skipped (l + 1) 0 h (drop (skipped f m) m) (between_drop b h m (skipped f m) w))
         ∙ skipped_on f l m le
+
+    -- among the entries from the place for f on, the place for l + 1
+    pub place_on : place f m + place (l + 1) (rest f m) ≡ place (l + 1) m
+    unfolding ending
+    place_on = ending_skipped ∙ sym (place_skipped (l + 1) b h m w)
 
     pub cuts_in_are : cuts_in f l m ≡ cuts_of f l m
     unfolding cuts_in cuts_of cuts

@@ -4,6 +4,7 @@ pub mod Remaking
 pub mod Slots
 pub mod Cutting
 pub mod Joining
+pub mod Begins
 pub mod Firsts
 pub mod Sums
 pub mod Counting

@@ -1,13 +1,14 @@
 -- What the moves and writes of an edit leave in the slots. Assumes nothing.
-use Rattle.std.proofs.Common.{◌≡◌, ℕ, zero, suc, ◌+◌, ◌-◌, ◌^◌, ◌<◌, ◌≤◌, Bool, ltb, cond, Bor, MatchOption, Option, Some, None, subst, List, [], ◌∷◌, ◌++◌, map, length, get_or, take, drop, set, sym, refl, ap, ◌∙◌, add-one, append_assoc, arith, length-drop, get_or-take}
+use Rattle.std.proofs.Common.{◌≡◌, ℕ, zero, suc, ◌+◌, ◌-◌, ◌^◌, ◌<◌, ◌≤◌, Bool, ltb, cond, Bor, MatchOption, Option, Some, None, subst, List, [], ◌∷◌, ◌++◌, map, length, get_or, take, drop, set, sym, refl, ap, ◌∙◌, append_assoc, arith, length-drop, length-take, get_or-take}
 use lib.Seq.{take-set-lt}
 use Rattle.std.specs.Bool.{then_some}
-use Rattle.std.specs.List.{copy_within, insert}
+use borrow.Rule.Slice.PartMut.{put_mid}
+use Rattle.std.specs.List.{insert, between}
 use Rattle.std.specs.Option.{option_and_then, option_copied}
 use Rattle.std.specs.Slice.{IsItemAt}
 use Rattle.std.proofs.lemmas.List.{drop_all, take-take, take_more_set, drop-set-lt, take-append-drop, length-take-le}
-use Rattle.std.proofs.lemmas.List.Edits.{take-paste}
-use Rattle.std.proofs.lemmas.Slice.{between_is}
+use Rattle.std.proofs.lemmas.List.Edits.{length-between}
+use Rattle.std.proofs.lemmas.Slice.{take-put_mid, between_is}
 use Rattle.std.proofs.lemmas.Bool.{ltb-true, ltb-false, le-leb, lt-leb, lt-ltb, le-ltb, and_from, and_left, and_right, cond-true, cond-false, cond_both}
 use Rattle.range_map.specs.declared.entry.Entry.{Entry}
 use Rattle.range_map.specs.Begun.{BeginBelow}
@@ -20,21 +21,29 @@ use Rattle.range_map.proofs.Joining.{cut_here, cuts_here}
 use Rattle.range_map.proofs.Stops.{drop_read, filtered}
 
 module _ {X : Type 0} where
-  set_last : (xs ys : List X) (i : ℕ) (x : X) → i < length xs → set (take (suc i) xs ++ ys) i x ≡ take i xs ++ (x ∷ ys)
-  set_last [] ys i x lt = absurd (omega arith)
-  set_last (a ∷ xs) ys zero x lt = refl
-  set_last (a ∷ xs) ys (suc i) x lt = ap (λ r. a ∷ r) (set_last xs ys i x (omega arith))
+  set_front : (xs ys : List X) (x : X) → length xs ≡ 1 → set (xs ++ ys) 0 x ≡ x ∷ ys
+  set_front [] ys x one = absurd (omega arith)
+  set_front (a ∷ []) ys x one = refl
+  set_front (a ∷ b ∷ xs) ys x one = absurd (omega arith)
 
-  -- the entries from i on moved up by one, and x in the slot that is free then
-  pub moved_in : (xs : List X) (used i : ℕ) (x : X) (ys : List X) → i ≤ used → used < length xs → ys ≡ copy_within xs i used (i + 1) → take (used + 1) (set ys i x) ≡ insert (take used xs) i x
-  moved_in xs used i x ys le room is =
-      let size : used + 1 ≡ i + 1 + (used - i) = omega arith in
-      let fits : used - i ≤ length (drop i xs) = simp length-drop (omega arith) in
-      let front : take (used + 1) ys ≡ take (i + 1) xs ++ take (used - i) (drop i xs) = (λ j. take (size j) (is j)) ∙ take-paste xs (i + 1) (drop i xs) (used - i) (omega arith) fits in
-      take-set-lt (used + 1) ys i x (omega arith)
-      ∙ ap (λ r. set r i x) (front ∙ (λ j. take (add-one i j) xs ++ between_is xs i used j))
-      ∙ set_last xs (drop i (take used xs)) i x (omega arith)
-      ∙ ap (λ r. r ++ (x ∷ drop i (take used xs))) (sym (take-take i used xs le))
+  pub shifted : (xs ys : List X) (x : X) → 0 < length xs → ys ≡ drop (length xs - 1) xs ++ take (length xs - 1) xs → set ys 0 x ≡ x ∷ take (length xs - 1) xs
+  shifted xs ys x some is =
+      let one : length (drop (length xs - 1) xs) ≡ 1 = simp length-drop (omega arith) in
+      ap (λ l. set l 0 x) is ∙ set_front (drop (length xs - 1) xs) (take (length xs - 1) xs) x one
+
+  -- the part from i to one past the entries in use, moved up by one under x
+  pub moved_in : (xs : List X) (used i : ℕ) (x : X) (part : List X) → i ≤ used → used < length xs → part ≡ x ∷ take (length (between i (used + 1) xs) - 1) (between i (used + 1) xs) → take (used + 1) (put_mid i (used + 1 - i) xs part) ≡ insert (take used xs) i x
+  moved_in xs used i x part le room is =
+      let long : length (between i (used + 1) xs) ≡ used + 1 - i = length-between xs i (used + 1) (omega arith) in
+      let tail : take (length (between i (used + 1) xs) - 1) (between i (used + 1) xs) ≡ drop i (take used xs)
+      = ap (λ k. take (k - 1) (between i (used + 1) xs)) long
+      ∙ take-take (used + 1 - i - 1) (used + 1 - i) (drop i xs) (omega arith)
+      ∙ ap (λ k. take k (drop i xs)) (omega arith)
+      ∙ between_is xs i used in
+      let whole : part ≡ x ∷ drop i (take used xs) = is ∙ ap (λ l. x ∷ l) tail in
+      let size : used + 1 ≡ i + length part = omega (arith, ap length whole, length-drop i (take used xs), length-take used xs) in
+      take-put_mid i (used + 1 - i) xs part (used + 1) size (omega arith)
+      ∙ sym (λ j. take-take i used xs le j ++ sym whole j)
 
   -- an element read from the slots, below those in use
   pub read_in : (xs : List X) (used i : ℕ) (e : X) → i < used → e ≡ get_or xs i e → e ≡ get_or (take used xs) i e

@@ -1,9 +1,11 @@
 -- Entries by index, and what a map's slots say of its entries in use. Assumes nothing.
-use Rattle.std.proofs.Common.{◌≡◌, ℕ, zero, suc, ◌+◌, ◌≤◌, cond, List, [], ◌∷◌, length, get_or, take, set, IfSome, Some, None, Option, sym, refl, ap, ◌∙◌, arith, MatchOption}
+use Rattle.std.proofs.Common.{◌≡◌, ℕ, zero, suc, ◌+◌, ◌≤◌, leb, cond, List, [], ◌∷◌, length, get_or, take, set, IfSome, Some, None, Option, sym, refl, ap, ◌∙◌, arith, MatchOption}
+use Rattle.std.proofs.lemmas.Bool.{cond_both}
 use Rattle.std.proofs.lemmas.Bool.Decides.{nat_tests}
 use Rattle.range_map.specs.declared.entry.Entry.{Entry}
 use Rattle.range_map.specs.Laws.{PlainRepay}
 use Rattle.range_map.specs.Map.{nth, repaid_at}
+use Rattle.range_map.specs.Placed.{paid}
 use Rattle.range_map.specs.Plain.{Between, at, payload_at, within}
 
 module _ {P : Type 0} where
@@ -27,6 +29,18 @@ module _ {P : Type 0} where
   take_repaid (suc used) [] i p = refl
   take_repaid (suc used) (x ∷ m) zero p = refl
   take_repaid (suc used) (x ∷ m) (suc i) p = ap (λ r. x ∷ r) (take_repaid used m i p)
+
+  pub length_repaid : (m : List (Entry P)) (i : ℕ) (p : P) → length (repaid_at i p m) ≡ length m
+  length_repaid [] i p = refl
+  length_repaid (x ∷ m) zero p = refl
+  length_repaid (x ∷ m) (suc i) p = ap suc (length_repaid m i p)
+
+  -- nor does a payload for all that begin in front change how many there are
+  pub length_paid : (l : ℕ) (p : P) (m : List (Entry P)) → length (paid l p m) ≡ length m
+  unfolding paid
+  length_paid l p [] = refl
+  length_paid l p (e ∷ m) =
+      cond_both {A = List (Entry P)} (leb e.first l) _ _ (λ r. length r ≡ suc (length m)) (λ _. ap suc (length_paid l p m)) (λ _. refl)
 
   pub between_repaid : (b h : ℕ) (m : List (Entry P)) (i : ℕ) (p : P) → Between b h m → Between b h (repaid_at i p m)
   between_repaid b h [] i p w = tt

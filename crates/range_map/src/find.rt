@@ -1,6 +1,5 @@
 // Questions on entries that rise. Each begins at the place of a position: the index of the first entry that ends there or past it.
-ghost use Rattle.std.specs.Prelude.{◌≡◌, ◌+◌, ◌^◌, ◌<◌, ◌≤◌, length, Bool};
-ghost use Rattle.range_map.specs.Begun.{BeginBelow};
+ghost use Rattle.std.specs.Prelude.{◌≡◌, ◌+◌, ◌^◌, ◌<◌, ◌≤◌, length, drop, Bool};
 ghost use Rattle.range_map.specs.Halving.{place};
 ghost use Rattle.range_map.specs.Placed.{rest};
 ghost use Rattle.range_map.specs.Plain.{at, cuts, cuts_of, gap, gap_by, hit};
@@ -67,29 +66,45 @@ impl<'a, P: Copy> RisingEntries<'a, P> {
         self.first_failing(range, |_| true)
     }
 
-    // How many entries in front begin before the position.
-    pub(crate) fn begun(&self, position: u64) -> usize
-        ensures part { BeginBelow position self.now.entries.now result }
-        ensures within { result ≤ length self.now.entries.now }
+    // Those from an index on.
+    fn from(&self, i: usize) -> RisingEntries<'_, P>
+        requires within { i ≤ length self.now.entries.now }
+        ensures { result.entries.now ≡ drop i self.now.entries.now }
     {
-        self.entries.partition_point(|e| e.begins_before(position))
+        RisingEntries {
+            entries: &self.entries[i..],
+        }
+    }
+
+    // The places of a range's first position and of the one past its last. The second lies from the first on, mostly
+    // near: it is looked for there alone.
+    pub(crate) fn places(&self, range: Span) -> (usize, usize)
+        requires ordered { range.first ≤ range.last }
+        requires bound { range.last < 2 ^ 62 }
+        ensures first { result.0 ≡ place range.first self.now.entries.now }
+        ensures past { result.1 ≡ place (range.last + 1) self.now.entries.now }
+    {
+        let first = self.find(range.first);
+        (first, first + self.from(first).find(range.last + 1))
     }
 
     // Whether a cut before position `n` adds an entry: 1 or 0.
-    fn splits(&self, n: u64) -> usize
+    fn splits(&self, i: usize, n: u64) -> usize
+        requires here { i ≡ place n self.now.entries.now }
         ensures cuts { result ≡ cuts n self.now.entries.now }
         ensures few { result ≤ 1 }
     {
-        let i = self.find(n);
         usize::from(self.entries.get(i).is_some_and(|e| e.begins_before(n)))
     }
 
     // How many entries a change of a range adds: one for each end that falls inside an entry.
     pub(crate) fn count_cuts(&self, range: Span) -> usize
+        requires ordered { range.first ≤ range.last }
         requires bound { range.last < 2 ^ 62 }
         ensures cuts { result ≡ cuts_of range.first range.last self.now.entries.now }
         ensures few { result ≤ 2 }
     {
-        self.splits(range.first) + self.splits(range.last + 1)
+        let (first, past) = self.places(range);
+        self.splits(first, range.first) + self.splits(past, range.last + 1)
     }
 }

@@ -1,10 +1,10 @@
 // Slots that the caller lends, with the entries in use in front. Slots past them are undecided.
-ghost use Rattle.std.specs.Prelude.{◌≡◌, ◌+◌, ◌^◌, ◌<◌, ◌≤◌, length, map, take};
+ghost use Rattle.std.specs.Prelude.{◌≡◌, ◌+◌, ◌-◌, ◌^◌, ◌<◌, ◌≤◌, ◌∷◌, length, map, take};
 ghost use Rattle.std.specs.List.{insert};
 ghost use Rattle.range_map.specs.Begun.{BeginBelow};
 ghost use Rattle.range_map.specs.Halving.{place};
 ghost use Rattle.range_map.specs.Lent.{LentSound, entries_in, paid_within, slots_in};
-ghost use Rattle.range_map.specs.Map.{entry_of, repaid_at};
+ghost use Rattle.range_map.specs.Map.{repaid_at};
 ghost use Rattle.range_map.specs.declared.entry.Entry.{Entry as EntryOf};
 ghost use Rattle.range_map.specs.Plain.{change, cut, cuts, cuts_of, ends, lay, remade, repaid};
 
@@ -38,6 +38,26 @@ fn remake_front<P: Copy, F: Fn(Entry<P>) -> P>(slots: &mut [Entry<P>], used: usi
     ensures slots_stay { length slots.new ≡ length slots.old }
 {
     remake_each(&mut slots[..used], becomes);
+}
+
+// Everything in the part goes one slot up, over its last slot, and `x` stands in front. A rotation by one moves the
+// part at once, where `copy_within` goes entry by entry, which took half as long again.
+fn shift<P: Copy>(part: &mut [Entry<P>], x: Entry<P>)
+    requires some { 0 < length part.old }
+    ensures shifted { part.new ≡ x ∷ take (length part.old - 1) part.old }
+{
+    part.rotate_right(1);
+    part[0] = x;
+}
+
+// One entry more in front, at index `i`. Past the last of them this moves nothing.
+fn insert_front<P: Copy>(slots: &mut [Entry<P>], used: usize, i: usize, x: Entry<P>)
+    requires within { i ≤ used }
+    requires room { used < length slots.old }
+    ensures after { take (used + 1) slots.new ≡ insert (take used slots.old) i x }
+    ensures slots_stay { length slots.new ≡ length slots.old }
+{
+    shift(&mut slots[i..used + 1], x);
 }
 
 // The payload for the entries from `low` on, up to `high`.
@@ -91,8 +111,7 @@ impl<'a, P: Copy> Lent<'a, P> {
         ensures slots_stay { slots_in self.new ≡ slots_in self.old }
     {
         let used = self.used;
-        self.slots.copy_within(i..used, i + 1);
-        self.slots[i] = x;
+        insert_front(self.slots, used, i, x);
         self.used = used + 1;
     }
 
@@ -108,53 +127,46 @@ impl<'a, P: Copy> Lent<'a, P> {
         self.insert(i, x);
     }
 
-    // The entry in which `n` lies past the first position becomes two, cut before `n`: both keep the payload.
-    fn cut(&mut self, n: u64)
+    // The entry in which `n` lies past the first position becomes two, cut before `n`: both keep the payload. `i` is the
+    // place of `n`; the answer is how many entries begin before `n` then.
+    fn cut(&mut self, i: usize, n: u64) -> usize
         requires sound { LentSound self.old }
+        requires here { i ≡ place n (entries_in self.old) }
         requires room { self.old.used + cuts n (entries_in self.old) ≤ slots_in self.old }
         ensures after { entries_in self.new ≡ cut n (entries_in self.old) }
+        ensures begun { result ≡ i + cuts n (entries_in self.old) }
         ensures count { self.new.used ≡ self.old.used + cuts n (entries_in self.old) }
         ensures slots_stay { slots_in self.new ≡ slots_in self.old }
     {
-        let i = self.place_of(n);
         let Some(e) = self
             .entries()
             .get(i)
             .copied()
             .filter(|e| e.begins_before(n))
         else {
-            return;
+            return i;
         };
         self.slots[i] = e.lower_part(n);
         self.insert(i + 1, e.upper_part(n));
+        i + 1
     }
 
-    // The indices, from the first to one past the last, of the entries that begin within a range.
-    fn begun_within(&self, range: Span) -> (usize, usize)
-        requires sound { LentSound self.now }
-        requires bound { range.last < 2 ^ 62 }
-        ensures low { BeginBelow range.first (entries_in self.now) result.0 }
-        ensures high { BeginBelow (range.last + 1) (entries_in self.now) result.1 }
-        ensures within { (result.0 ≤ self.now.used) × (result.1 ≤ self.now.used) }
-    {
-        let entries = self.rising();
-        (entries.begun(range.first), entries.begun(range.last + 1))
-    }
-
-    // The payload for these entries.
-    fn pay(&mut self, range: Span, payload: P)
-        requires sound { LentSound self.old }
+    // The payload for the entries that begin within a range: those from `low` on, up to `high`.
+    fn pay(&mut self, range: Span, low: usize, high: usize, payload: P)
+        requires fits { self.old.used ≤ slots_in self.old }
         requires ordered { range.first ≤ range.last }
-        requires bound { range.last < 2 ^ 62 }
+        requires low { BeginBelow range.first (entries_in self.old) low }
+        requires high { BeginBelow (range.last + 1) (entries_in self.old) high }
+        requires within { (low ≤ self.old.used) × (high ≤ self.old.used) }
         ensures after { entries_in self.new ≡ map (repaid range.first range.last payload) (entries_in self.old) }
         ensures count { self.new.used ≡ self.old.used }
         ensures slots_stay { slots_in self.new ≡ slots_in self.old }
     {
-        let (low, high) = self.begun_within(range);
         pay_within(self.slots, low, high, payload);
     }
 
-    // Both cuts, then the payload for what lies between.
+    // Both cuts, then the payload for what lies between. Each end is looked for once: a cut tells how many entries begin
+    // before it, and as many lie behind the range after the cut in front as before it.
     pub(crate) fn change(&mut self, range: Span, payload: P)
         requires sound { LentSound self.old }
         requires ordered { range.first ≤ range.last }
@@ -164,9 +176,12 @@ impl<'a, P: Copy> Lent<'a, P> {
         ensures fits { self.new.used ≤ slots_in self.new }
         ensures slots_stay { slots_in self.new ≡ slots_in self.old }
     {
-        self.cut(range.last + 1);
-        self.cut(range.first);
-        self.pay(range, payload);
+        let (first, past) = self.rising().places(range);
+        let high = self.cut(past, range.last + 1);
+        let behind = self.used - high;
+        let low = self.cut(first, range.first);
+        let high = self.used - behind;
+        self.pay(range, low, high, payload);
     }
 
     // Every entry in use gets what becomes of it. Told of each function that the calls compute.

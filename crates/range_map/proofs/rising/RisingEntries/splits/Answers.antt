@@ -10,4 +10,4 @@ returns-clause-cuts g c =
     let n = c.args.n in
     c.«from».ensures ∙ ap from_bool (asked (λ e. ltb e.first n) _ c.get.result _ (λ e h. search rules) c.is_some_and.ensures)
     ∙ counted n _ _ (got m _ c.get.result c.get.ensures.lookup)
-    ∙ sym (cuts_next 0 (2 ^ 62) m c.args.self.now.rising n _ c.find-i.ensures.place)
+    ∙ sym (cuts_next 0 (2 ^ 62) m c.args.self.now.rising n _ c.requires.here)
