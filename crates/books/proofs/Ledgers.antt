@@ -1,5 +1,5 @@
 -- The laws of ledgers: what is found after a member joins or its totals change. Assumes nothing.
-use Rattle.std.proofs.Common.{◌≡◌, ℕ, zero, suc, ◌+◌, ◌<◌, Bool, true, false, cond, not, List, [], ◌∷◌, ◌++◌, map, length, get_or, set, is_some, Some, None, Ordering, sym, refl, ap, ◌∙◌, ⊎_elim, arith}
+use Rattle.std.proofs.Common.{◌≡◌, ℕ, zero, suc, ◌+◌, ◌<◌, Bool, true, false, cond, not, List, [], ◌∷◌, ◌++◌, map, length, get_or, set, is_some, Some, None, Ordering, Equal, sym, refl, ap, ◌∙◌, ⊎_elim, arith}
 use Rattle.std.specs.Cmp.{Equal-is}
 use Rattle.std.specs.Option.{option_map}
 use Rattle.std.proofs.lemmas.Bool.{both_ways, and_parts, cases_Bool, cond-true, cond-false}
@@ -75,8 +75,11 @@ module _ {P : Type 0} {order : P → P → Ordering} (lawful : TotalOrder order)
   pub matches_self : (k : P) → matches order k k ≡ true
   matches_self k = ap is_equal (lawful.same k)
 
+  is_equal_lem : (o : Ordering) → is_equal o ≡ true → o ≡ Equal
+  is_equal_lem o h = (Equal-is o).0 h
+
   pub matches_equal : (k other : P) → matches order k other ≡ true → k ≡ other
-  matches_equal k other h = lawful.equal k other ((Equal-is (order k other)).0 h)
+  matches_equal k other h = lawful.equal k other (is_equal_lem (order k other) h)
 
   pub matches_differ : (k other : P) → (k ≡ other → ⊥) → matches order k other ≡ false
   matches_differ k other ne = ⊎_elim (λ yes'. absurd (ne (matches_equal k other yes'))) (λ h. h) (cases_Bool (matches order k other))

@@ -2,7 +2,7 @@
 use Rattle.std.proofs.Common.{◌≡◌, ℕ, suc, ◌+◌, ◌%◌, ◌<◌, ◌≤◌, min, true, false, List, [], ◌∷◌, ◌++◌, length, get_or, take, drop, set, Some, None, Option, Ordering, sym, refl, ap, ◌∙◌, subst, ⊎_elim, mod-lt, arith}
 use Rattle.std.specs.Option.{option_map}
 use Rattle.std.proofs.lemmas.List.{get_or_default, get_or_past, get_or-set_same, get_or-set_other, length-set, set_split, set-get_or}
-use Rattle.std.proofs.lemmas.Bool.{cases_lt, cases_eq, cases_Bool, eq-eqb, ltb-true, le-ltb}
+use Rattle.std.proofs.lemmas.Bool.{cases_lt, cases_eq, cases_Bool, eq-eqb, ltb-true, lt-ltb, le-ltb}
 use Rattle.std.proofs.lemmas.Bool.Decides.{nat_tests}
 use Rattle.figures.specs.Accounts.{TotalOrder}
 use Rattle.figures.specs.Limits.{most_members}
@@ -100,6 +100,9 @@ module _ {P : Type 0} {order : P → P → Ordering} (lawful : TotalOrder order)
 
     pub table_room : roomy (table_ledger slots n) ≡ true → n < table_capacity slots
     table_room h = omega (arith, ltb-true _ _ h, table_count)
+
+    pub table_room_left : n < table_capacity slots → roomy (table_ledger slots n) ≡ true
+    table_room_left h = lt-ltb _ _ (omega (arith, table_count))
 
     pub table_no_room : table_capacity slots ≤ n → roomy (table_ledger slots n) ≡ false
     table_no_room h = le-ltb _ _ (omega (arith, table_count))

@@ -6,7 +6,7 @@ ghost use Rattle.books_hashed.specs.Hashed.{table_ledger, TableSound, TableSound
 ghost use Rattle.books_hashed.specs.Probing.{probe_for};
 ghost use Rattle.books_hashed.specs.declared.probing.Probe.TheVariants.{Found, Free};
 
-use crate::probing::{Probe, clear, probe_for, put_row, put_totals};
+use crate::probing::{Probe, clear, probe_for, put_row, put_totals, slot_at};
 use books::{Book, BookFault, Key, Row};
 use figures::{Account, Device, MAX_MEMBERS};
 
@@ -84,7 +84,7 @@ impl<K: Key> Book<K> for BookHashed<'_, K> {
         let Probe::Found(at) = self.probe_key(key) else {
             return None;
         };
-        self.slots[at]
+        slot_at(self.slots, at)
     }
 
     fn count(&self) -> usize {

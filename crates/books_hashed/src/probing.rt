@@ -1,8 +1,8 @@
 // A hash table with linear probing: finding a key's slot, and putting a row into one.
-ghost use Rattle.std.specs.Prelude.{◌≡◌, ℕ, ◌+◌, ◌<◌, length, Some, None, slice_index_or, slice_set};
+ghost use Rattle.std.specs.Prelude.{◌≡◌, ℕ, ◌+◌, ◌-◌, ◌%◌, ◌<◌, ◌≤◌, length, Some, None, slice_index_or, slice_set};
 ghost use Rattle.std.specs.Option.{option_map};
 ghost use Rattle.books.specs.Ledger.{matches};
-ghost use Rattle.books_hashed.specs.Probing.{glanced, probe_for};
+ghost use Rattle.books_hashed.specs.Probing.{ends_or, glanced, key_at, probe_for, probe_from};
 ghost use Rattle.books.specs.Rows.{with_totals};
 ghost use Rattle.books.specs.declared.rows.Row.{Row};
 
@@ -29,6 +29,27 @@ fn glance<K: Key>(slot: Option<Row<K::Plain>>, key: K::Plain, at: usize) -> Opti
     }
 }
 
+// Where the probe ends among the slots from `from` up to `to`; if at none of them, it goes on from `to`, round
+// the end of the table. One range for each call: a chain of two asks at each slot which of them it is in.
+fn probe_among<K: Key>(
+    slots: &[Option<Row<K::Plain>>],
+    from: usize,
+    to: usize,
+    key: K::Plain,
+) -> Option<Probe>
+    requires begins { from < length slots.now }
+    requires ordered { from ≤ to }
+    requires within { to ≤ length slots.now }
+    ensures ends { (n : ℕ) → ends_or result (probe_from (matches K.Key.order key) (key_at slots.now) (length slots.now) (to % length slots.now) n) ≡ probe_from (matches K.Key.order key) (key_at slots.now) (length slots.now) from (to - from + n) }
+{
+    for at in from..to {
+        if let Some(end) = glance::<K>(slots[at], key, at) {
+            return Some(end);
+        }
+    }
+    None
+}
+
 // From the key's home slot on, round the end of the table.
 pub(crate) fn probe_for<K: Key>(slots: &[Option<Row<K::Plain>>], key: K::Plain) -> Probe
     ensures ends { result ≡ probe_for K.Key.order K.Key.spread key slots.now }
@@ -38,13 +59,17 @@ pub(crate) fn probe_for<K: Key>(slots: &[Option<Row<K::Plain>>], key: K::Plain) 
         return Probe::Full;
     }
     let home = (K::hashed(key) % count as u64) as usize;
-    // Over indices: as find_map, what the closure asks of its index stayed open.
-    for at in (home..count).chain(0..home) {
-        if let Some(end) = glance::<K>(slots[at], key, at) {
-            return end;
-        }
-    }
-    Probe::Full
+    probe_among::<K>(slots, home, count, key)
+        .or_else(|| probe_among::<K>(slots, 0, home, key))
+        .unwrap_or(Probe::Full)
+}
+
+// What a slot holds. A function of its own, which needs no proof file, so that a wrong row is refused here.
+pub(crate) fn slot_at<P: Copy>(slots: &[Option<Row<P>>], place: usize) -> Option<Row<P>>
+    requires within { place < length slots.now }
+    ensures slot { result ≡ slice_index_or slots.now place None }
+{
+    slots[place]
 }
 
 // The row takes the slot. The slots and their count change in one call, since a book of them is whole

@@ -1,10 +1,10 @@
 -- Books in key order: what a place found, a row put in and a row rewritten mean. Assumes nothing.
-use Rattle.std.proofs.Common.{◌≡◌, ℕ, zero, suc, ◌+◌, ◌-◌, ◌<◌, min, true, false, List, [], ◌∷◌, ◌++◌, length, get_or, take, drop, set, Some, Ok, Err, Result, Ordering, Less, sym, refl, ap, ◌∙◌, subst, ⊎_elim, arith}
+use Rattle.std.proofs.Common.{◌≡◌, ℕ, zero, suc, ◌+◌, ◌-◌, ◌<◌, ◌≤◌, min, true, false, List, [], ◌∷◌, ◌++◌, length, get_or, take, drop, set, Some, Ok, Err, Result, Ordering, Less, sym, refl, ap, ◌∙◌, subst, ⊎_elim, arith}
 use Rattle.std.specs.List.{insert}
 use Rattle.std.specs.Result.{is_ok}
 use Rattle.std.proofs.lemmas.List.Edits.{length-insert, get_or-insert_below, get_or-insert_at, get_or-insert_above}
 use Rattle.std.proofs.lemmas.List.{take-append-drop, length-take-le, get_or-take, get_or_default, get_or-set_same, get_or-set_other, length-set}
-use Rattle.std.proofs.lemmas.Bool.{cases_lt, cases_eq, ltb-true}
+use Rattle.std.proofs.lemmas.Bool.{cases_lt, cases_eq, ltb-true, lt-ltb, le-ltb}
 use Rattle.figures.specs.Accounts.{TotalOrder}
 use Rattle.figures.specs.Limits.{most_members}
 use Rattle.books.specs.Ledger.{is_equal, matches, present, apart, running_number, totals, roomy, newcomer, enrolled, written_in}
@@ -203,6 +203,12 @@ module _ {P : Type 0} {order : P → P → Ordering} (slots : List (Row P)) (n :
 
   pub has_room : roomy (keyed_ledger slots n) ≡ true → n < keyed_capacity slots
   has_room h = omega (arith, ltb-true _ _ h, in_order_count)
+
+  pub room_left : n < keyed_capacity slots → roomy (keyed_ledger slots n) ≡ true
+  room_left h = lt-ltb _ _ (omega (arith, in_order_count))
+
+  pub has_no_room : keyed_capacity slots ≤ n → roomy (keyed_ledger slots n) ≡ false
+  has_no_room h = le-ltb _ _ (omega (arith, in_order_count))
 
 -- of a place that came to nothing
 pub sought_nowhere : {P : Type 0} {order : P → P → Ordering} → TotalOrder order → (k : P) (xs : List (Row P)) (sought : Result ℕ ℕ) → Sought order k xs sought → is_ok sought ≡ false → (n : ℕ) → present (matches order k) (ordered Some n xs) ≡ false

@@ -5,7 +5,7 @@ ghost use Rattle.books.specs.Faults.{forgotten, add_verdict};
 ghost use Rattle.books_in_order.specs.InOrder.{keyed_ledger, KeyedSound, KeyedSound-prop};
 ghost use Rattle.books_in_order.specs.KeyOrder.{Sought};
 
-use crate::key_order::insert;
+use crate::key_order::{insert, row_at};
 use books::{Book, BookFault, Key, Row};
 use figures::{Account, Device, MAX_MEMBERS};
 
@@ -88,9 +88,10 @@ impl<K: Key> Book<K> for BookInOrder<'_, K> {
 
     fn find(&self, key: K) -> Option<Row<K::Plain>> {
         let at = self.seek_key(key).ok()?;
-        Some(self.rows[at])
+        Some(row_at(self.rows, at))
     }
 
+    #[tactic(auto, using(crate::proofs::KeyOrdered::in_order_count))]
     fn count(&self) -> usize {
         self.used
     }

@@ -1,5 +1,5 @@
-// Rows in key order: making place for a row.
-ghost use Rattle.std.specs.Prelude.{◌≡◌, ◌+◌, ◌-◌, ◌<◌, ◌≤◌, ◌++◌, length, take, drop};
+// Rows in key order: making place for a row, and reading one.
+ghost use Rattle.std.specs.Prelude.{◌≡◌, ◌+◌, ◌-◌, ◌<◌, ◌≤◌, ◌++◌, length, take, drop, slice_index_or};
 ghost use Rattle.std.specs.List.{insert};
 
 use books::Row;
@@ -23,4 +23,12 @@ pub(crate) fn insert<P: Copy>(rows: &mut [Row<P>], used: &mut usize, place: usiz
     move_up(&mut rows[place..*used + 1]);
     rows[place] = row;
     *used += 1;
+}
+
+// The row at a place. A function of its own, which needs no proof file, so that a wrong row is refused here.
+pub(crate) fn row_at<P: Copy>(rows: &[Row<P>], at: usize) -> Row<P>
+    requires within { at < length rows.now }
+    ensures row { result ≡ slice_index_or rows.now at result }
+{
+    rows[at]
 }

@@ -1,5 +1,4 @@
-use Rattle.std.proofs.Common.{◌≡◌, get_or, None, sym, refl, ◌∙◌}
-use Rattle.std.proofs.lemmas.List.{get_or_default}
+use Rattle.std.proofs.Common.{sym, refl, ◌∙◌}
 use Rattle.books.specs.Ledger.{matches}
 use Rattle.books.proofs.Found.{number_none, totals_none}
 use Rattle.books_hashed.specs.Hashed.{table_ledger}
@@ -15,12 +14,10 @@ returns g c =
     let l = table_ledger b.slots.now b.used in
     let found = sym c.in-Found.ensures.ends in
     let at = c.in-Found.at in
-    let slot = get_or b.slots.now at c.index-self-at.result in
-    let read : slot ≡ get_or b.slots.now at None = get_or_default b.slots.now at c.index-self-at.result None (c.in-Found.ensures.found_inside at refl) in
     record {
-      key = slot_key g.met.K.Key.total g.K.Key.spread b.slots.now b.used sound k at found slot read;
-      number = slot_number g.met.K.Key.total g.K.Key.spread b.slots.now b.used sound k at found slot read;
-      totals = slot_totals g.met.K.Key.total g.K.Key.spread b.slots.now b.used sound k at found slot read;
+      key = slot_key g.met.K.Key.total g.K.Key.spread b.slots.now b.used sound k at found c.slot_at.result c.slot_at.ensures.slot;
+      number = slot_number g.met.K.Key.total g.K.Key.spread b.slots.now b.used sound k at found c.slot_at.result c.slot_at.ensures.slot;
+      totals = slot_totals g.met.K.Key.total g.K.Key.spread b.slots.now b.used sound k at found c.slot_at.result c.slot_at.ensures.slot;
     }
 
 pub returns-in_default : goal.returns-in_default

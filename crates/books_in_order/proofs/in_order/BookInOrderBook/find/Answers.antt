@@ -1,4 +1,4 @@
-use Rattle.std.proofs.Common.{rules, ◌≡◌, false, take, Some, Ok, sym, ap, subst, ◌∙◌}
+use Rattle.std.proofs.Common.{rules, ◌≡◌, false, take, Ok, ap, subst, ◌∙◌}
 use Rattle.std.specs.Option.{option_map}
 use Rattle.std.specs.Result.{is_ok}
 use Rattle.books.specs.Ledger.{matches}
@@ -37,10 +37,9 @@ returns g c =
     let k = g.K.Key.plain c.args.key in
     let found : c.seek_key.result ≡ Ok c.in_ok-at.at = search rules in
     let sought = subst (Sought g.K.Key.order k (take b.used b.rows.now)) found c.seek_key.ensures.sought in
-    let row = c.index-self-at.result in
-    let read = sym c.index-self-at.is in
+    let row = c.row_at.result in
     record {
-      key = ap (λ r. Some r.key) read ∙ read_key g.met.K.Key.total k b.rows.now b.used c.in_ok-at.at sound sought row c.index-self-at.is;
-      number = ap (λ r. Some r.number) read ∙ read_number g.met.K.Key.total k b.rows.now b.used c.in_ok-at.at sound sought row c.index-self-at.is;
-      totals = ap (λ r. Some (r.first, r.second)) read ∙ read_totals g.met.K.Key.total k b.rows.now b.used c.in_ok-at.at sound sought row c.index-self-at.is;
+      key = read_key g.met.K.Key.total k b.rows.now b.used c.in_ok-at.at sound sought row c.row_at.ensures.row;
+      number = read_number g.met.K.Key.total k b.rows.now b.used c.in_ok-at.at sound sought row c.row_at.ensures.row;
+      totals = read_totals g.met.K.Key.total k b.rows.now b.used c.in_ok-at.at sound sought row c.row_at.ensures.row;
     }
