@@ -6,6 +6,7 @@ use Rattle.register.specs.Checks.{bad_at}
 use Rattle.register.specs.Faults.{fault_in, unless, first_fault}
 use Rattle.register.specs.Settled.{Judged}
 use Rattle.register.specs.declared.faults.Fault.{Fault}
+use Rattle.register.specs.declared.faults.Fault.TheVariants.{Operand}
 
 pub none_before : (xs ys : List (Option Fault)) → None ≡ first_fault xs → first_fault (xs ++ ys) ≡ first_fault ys
 none_before [] ys none = refl
@@ -49,17 +50,34 @@ decides (pass {rest = rest} none later) = decides later ∙ ap (λ y. first_faul
 decides (stop_in {f} part rest some) = one_before part rest f some
 decides (pass_all part rest none later) = decides later ∙ sym (none_before part rest none)
 
+pub verdict_of : (v : Option Fault) (checks : List (Option Fault)) → Reaches v checks → v ≡ first_fault checks
+verdict_of v checks way = decides way
+
 pub judged_err : {X : Type 0} {P : X → Type 0} {r : Result X Fault} {f : Fault} {checks : List (Option Fault)} → r ≡ Err f → Reaches (Some f) checks → Judged checks P r
 judged_err {P = P} e way = record { verdict = ap fault_in e ∙ decides way; ready = subst (λ x. IfOk x P) (sym e) tt }
 
 pub judged_ok : {X : Type 0} {P : X → Type 0} {checks : List (Option Fault)} (v : X) → Reaches None checks → P v → Judged checks P (Ok v)
 judged_ok v way ready = record { verdict = decides way; ready = ready }
 
+-- the fault of an answer that is an Err, or an Ok
+pub err_fault : {X : Type 0} {r : Result X Fault} {f : Fault} {x : Option Fault} → r ≡ Err f → Some f ≡ x → fault_in r ≡ x
+err_fault e h = ap fault_in e ∙ h
+
 pub ok_fault : {X : Type 0} {r : Result X Fault} {v : X} {x : Option Fault} → r ≡ Ok v → fault_in r ≡ x → None ≡ x
 ok_fault e h = ap fault_in (sym e) ∙ h
 
 pub ok_operand : {X : Type 0} {r : Result X OperandFault} {v : X} {x : Option ℕ} → r ≡ Ok v → refused_at r ≡ x → None ≡ bad_at x
 ok_operand e h = ap bad_at (ap refused_at (sym e) ∙ h)
+
+pub err_operand : {X : Type 0} {r : Result X OperandFault} {f : OperandFault} {x : Option ℕ} → r ≡ Err f → refused_at r ≡ x → Some (Operand f) ≡ bad_at x
+err_operand e h = ap bad_at (ap refused_at (sym e) ∙ h)
+
+-- a test that must hold
+pub holds_test : (b : Bool) (f : Fault) → b ≡ true → None ≡ unless b f
+holds_test b f t = ap (λ x. unless x f) (sym t)
+
+pub fails_test : (b : Bool) (f : Fault) → b ≡ false → Some f ≡ unless b f
+fails_test b f t = ap (λ x. unless x f) (sym t)
 
 -- a test that passed
 pub passed : (b : Bool) (f : Fault) → None ≡ unless b f → b ≡ true
