@@ -2,6 +2,7 @@
 // Its meaning is a rising list of entries, no two sharing a position.
 #![tactic(auto)]
 
+mod asks;
 mod entry;
 mod fault;
 mod find;
@@ -11,6 +12,7 @@ mod map;
 mod operations;
 mod rising;
 
+pub use asks::{Remake, Test};
 pub use entry::{Entry, Payload, Span};
 pub use fault::{MapFault, Returned};
 pub use map::RangeMap;

@@ -21,7 +21,7 @@ use crate::counts::{count_picked, is_given_back};
 use crate::day::{DayFigures, OpenDay};
 use crate::faults::Fault;
 use crate::registers::Register;
-use crate::remakes::{accepted, recalled};
+use crate::remakes::{Acceptance, Recall};
 use crate::rows::{Offer, OfferState, Standing};
 use crate::terms::Today;
 use books::{Book, Change, Posting, post, post_both};
@@ -173,9 +173,10 @@ fn book_acceptance<AccountBook: Book<Account>, DeviceBook>(
             second: Change::Up(0),
         },
     );
-    tables
-        .standings
-        .remake(|entry| { accepted(entry, number, offer.to) });
+    tables.standings.remake(&Acceptance {
+        offer: number,
+        receiver: offer.to,
+    });
     answer_in(tables.offers, number, OfferCall::Accept);
 }
 
@@ -215,9 +216,11 @@ fn book_recall<AccountBook: Book<Account>, DeviceBook>(
             second: Change::Down(count),
         },
     );
-    tables
-        .standings
-        .remake(|entry| { recalled(entry, number, offer.from, today) });
+    tables.standings.remake(&Recall {
+        offer: number,
+        sender: offer.from,
+        today,
+    });
     answer_in(tables.offers, number, OfferCall::Recall);
 }
 

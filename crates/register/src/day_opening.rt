@@ -13,7 +13,7 @@ use crate::counts::size_of;
 use crate::day::{ClosedDay, DayFigures, OpenDay};
 use crate::faults::Fault;
 use crate::registers::Register;
-use crate::remakes::expired;
+use crate::remakes::Expiry;
 use crate::rows::Standing;
 use crate::terms::Today;
 use books::{Book, Change, Posting, post};
@@ -95,7 +95,7 @@ fn expire<AccountBook: Book<Account>, DeviceBook>(
         origins: &tables.origins,
     };
     lower_all(&mut register.accounts, today, tables.standings.entries());
-    tables.standings.remake(|entry| expired(entry, today));
+    tables.standings.remake(&Expiry { today });
 }
 
 impl ClosedDay {

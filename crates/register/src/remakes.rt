@@ -6,42 +6,68 @@ ghost use Rattle.register.specs.Holdings.{accepted, recalled, expired};
 use crate::rows::Standing;
 use crate::terms::Today;
 use figures::Account;
-use range_map::Entry;
+use range_map::{Entry, Remake};
 
 // An acceptance: the receiver holds what stood under the offer.
-pub(crate) fn accepted(entry: Entry<Standing>, offer: u32, receiver: Account) -> Standing
-    ensures becomes { result ≡ accepted offer receiver entry }
-{
-    if entry.payload.is_offered_under(offer) {
-        return Standing::Held(receiver);
+#[derive(Drop)]
+pub(crate) struct Acceptance {
+    pub(crate) offer: u32,
+    pub(crate) receiver: Account,
+}
+
+// Each method repeats the clause of its trait: where an entry is an argument, the check cannot give it yet.
+impl Remake<Standing> for Acceptance {
+    ghost becoming = { λ s e. accepted s.offer s.receiver e };
+
+    fn becomes(&self, entry: Entry<Standing>) -> Standing
+        ensures becomes { result ≡ accepted self.now.offer self.now.receiver entry }
+    {
+        if entry.payload.is_offered_under(self.offer) {
+            return Standing::Held(self.receiver);
+        }
+        entry.payload
     }
-    entry.payload
 }
 
 // A recall: the sender holds it again, unless it is past its term.
-pub(crate) fn recalled(
-    entry: Entry<Standing>,
-    offer: u32,
-    sender: Account,
-    today: Today<'_, '_>,
-) -> Standing
-    ensures becomes { result ≡ recalled offer sender today.entry.date (in_use today.entry.origins.now) entry }
-{
-    if !entry.payload.is_offered_under(offer) {
-        return entry.payload;
+#[derive(Drop)]
+pub(crate) struct Recall<'a, 'b> {
+    pub(crate) offer: u32,
+    pub(crate) sender: Account,
+    pub(crate) today: Today<'a, 'b>,
+}
+
+impl Remake<Standing> for Recall<'_, '_> {
+    ghost becoming = { λ s e. recalled s.offer s.sender s.today.date (in_use s.today.origins.now) e };
+
+    fn becomes(&self, entry: Entry<Standing>) -> Standing
+        ensures becomes { result ≡ recalled self.now.offer self.now.sender self.now.today.date (in_use self.now.today.origins.now) entry }
+    {
+        if !entry.payload.is_offered_under(self.offer) {
+            return entry.payload;
+        }
+        if self.today.lapses(entry) {
+            return Standing::Expired;
+        }
+        Standing::Held(self.sender)
     }
-    if today.lapses(entry) {
-        return Standing::Expired;
-    }
-    Standing::Held(sender)
 }
 
 // A new day: what is held past its term expires.
-pub(crate) fn expired(entry: Entry<Standing>, today: Today<'_, '_>) -> Standing
-    ensures becomes { result ≡ expired today.entry.date (in_use today.entry.origins.now) entry }
-{
-    if entry.payload.is_held() && today.lapses(entry) {
-        return Standing::Expired;
+#[derive(Drop)]
+pub(crate) struct Expiry<'a, 'b> {
+    pub(crate) today: Today<'a, 'b>,
+}
+
+impl Remake<Standing> for Expiry<'_, '_> {
+    ghost becoming = { λ s e. expired s.today.date (in_use s.today.origins.now) e };
+
+    fn becomes(&self, entry: Entry<Standing>) -> Standing
+        ensures becomes { result ≡ expired self.now.today.date (in_use self.now.today.origins.now) entry }
+    {
+        if entry.payload.is_held() && self.today.lapses(entry) {
+            return Standing::Expired;
+        }
+        entry.payload
     }
-    entry.payload
 }
