@@ -123,3 +123,47 @@ fn the_first_and_the_last_position(rt: HostRuntime) -> Result<(), Fail> {
     assert_eq!(rt; map.entries().len(), 3);
     Ok(())
 }
+
+#[test]
+fn the_first_position_whose_payload_fails_a_closure(rt: HostRuntime) -> Result<(), Fail> {
+    let mut slots = [entry(0, 0, 0); 4];
+    let mut map = RangeMap::new(&mut slots);
+    map.lay(span(1, 3), Mark(1))?;
+    map.lay(span(4, 6), Mark(2))?;
+    map.lay(span(8, 9), Mark(1))?;
+    let wanted = Mark(1);
+    assert_eq!(rt; map.first_failing(span(1, 3), |mark| mark == wanted), None);
+    assert_eq!(rt;
+        map.first_failing(span(2, 9), |mark| mark == wanted),
+        Some(4)
+    );
+    assert_eq!(rt;
+        map.first_failing(span(5, 9), |mark| mark == wanted),
+        Some(5)
+    );
+    assert_eq!(rt; map.first_failing(span(2, 9), |_| true), Some(7));
+    assert_eq!(rt; map.first_failing(span(0, 3), |_| true), Some(0));
+    Ok(())
+}
+
+#[test]
+fn a_closure_remakes_every_entry(rt: HostRuntime) -> Result<(), Fail> {
+    let mut slots = [entry(0, 0, 0); 4];
+    let mut map = RangeMap::new(&mut slots);
+    map.lay(span(1, 3), Mark(1))?;
+    map.lay(span(4, 6), Mark(2))?;
+    map.lay(span(8, 9), Mark(1))?;
+    let wanted = Mark(1);
+    map.remake(|e| {
+        if e.payload == wanted && e.first > 1 {
+            Mark(5)
+        } else {
+            e.payload
+        }
+    });
+    assert_eq!(rt; map.count(), 3);
+    assert_eq!(rt; map.entry(0), Some(entry(1, 3, 1)));
+    assert_eq!(rt; map.entry(1), Some(entry(4, 6, 2)));
+    assert_eq!(rt; map.entry(2), Some(entry(8, 9, 5)));
+    Ok(())
+}

@@ -173,7 +173,7 @@ fn book_acceptance<AccountBook: Book<Account>, DeviceBook>(
             second: Change::Up(0),
         },
     );
-    tables.standings.remake(&Acceptance {
+    tables.standings.remake_as(&Acceptance {
         offer: number,
         receiver: offer.to,
     });
@@ -216,7 +216,7 @@ fn book_recall<AccountBook: Book<Account>, DeviceBook>(
             second: Change::Down(count),
         },
     );
-    tables.standings.remake(&Recall {
+    tables.standings.remake_as(&Recall {
         offer: number,
         sender: offer.from,
         today,
