@@ -1,6 +1,6 @@
-// What a caller may have asked of the payloads of a map, and what it may have made of its entries, as traits. A closure
-// must be callable with every value, and the reply is told of each function that it computes; here the ghost member is
-// all that a contract needs to know, so that a call answers by one equation, for every input, and asks nothing.
+// What a caller may have asked of the payloads of a map, and what it may have made of its entries. Traits and no
+// closures: the ghost member is all that a contract needs to know of either, so that each call answers by one
+// equation, for every input, and asks nothing of its caller.
 ghost use Rattle.std.specs.Prelude.{◌≡◌, Bool};
 ghost use Rattle.range_map.specs.declared.entry.Entry.{Entry as EntryOf};
 

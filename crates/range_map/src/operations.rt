@@ -96,22 +96,14 @@ impl<'a, P: Payload> RangeMap<'a, P> {
         self.rising().first_taken(range)
     }
 
-    // The first position of a range that no entry covers or whose payload fails the test. Told of each test that the calls compute.
+    // The first position of a range that no entry covers or whose payload fails the test.
     #[tactic(auto, using(crate::proofs::Joining::failing_is_gap_by))]
-    pub fn first_failing<F: Fn(P) -> bool>(&self, range: Span, passes: F) -> Option<u64>
-        requires callable { F.IsAlwaysCallable passes }
-        ensures as_placed { (t : P → Bool) → ((p : P) (b : Bool) → F.post passes p b → b ≡ t p) → result ≡ gap_by t range.first range.last (rest range.first (in_use self.now)) }
-        ensures in_plain_words { (t : P → Bool) → ((p : P) (b : Bool) → F.post passes p b → b ≡ t p) → result ≡ gap_by t range.first range.last (in_use self.now) }
-    {
-        self.rising().first_failing(range, passes)
-    }
-
-    // The same for a test that says what it is: the reply is one equation, and nothing is asked of the caller.
-    pub fn first_failing_test<T: Test<P>>(&self, range: Span, test: &T) -> Option<u64>
+    pub fn first_failing<T: Test<P>>(&self, range: Span, test: &T) -> Option<u64>
         ensures as_placed { result ≡ gap_by (T.Test.passing test.now) range.first range.last (rest range.first (in_use self.now)) }
         ensures in_plain_words { result ≡ gap_by (T.Test.passing test.now) range.first range.last (in_use self.now) }
     {
-        self.first_failing(range, |payload| test.passes(payload))
+        self.rising()
+            .first_failing(range, |payload| test.passes(payload))
     }
 
     // What `lay` would reply, with nothing changed.
@@ -181,21 +173,12 @@ impl<'a, P: Payload> RangeMap<'a, P> {
         true
     }
 
-    // Another payload for every entry, in place: what becomes of it. Ranges stay. Told of each function that the calls compute.
-    pub fn remake<F: Fn(Entry<P>) -> P>(&mut self, becomes: F)
-        requires callable { F.IsAlwaysCallable becomes }
-        ensures every_entry { (g : EntryOf P → P) → ((e : EntryOf P) (p : P) → F.post becomes e p → p ≡ g e) → in_use self.new ≡ map (remade g) (in_use self.old) }
-        ensures slots_stay { slots_of self.new ≡ slots_of self.old }
-    {
-        self.inner.remake(becomes);
-    }
-
-    // The same for a remaking that says what it is.
-    pub fn remake_as<R: Remake<P>>(&mut self, remake: &R)
+    // Another payload for every entry, in place: what becomes of it. Ranges stay.
+    pub fn remake<R: Remake<P>>(&mut self, remake: &R)
         ensures every_entry { in_use self.new ≡ map (remade (R.Remake.becoming remake.now)) (in_use self.old) }
         ensures slots_stay { slots_of self.new ≡ slots_of self.old }
     {
-        self.remake(|entry| remake.becomes(entry));
+        self.inner.remake(|entry| remake.becomes(entry));
     }
 
     // The entries in use, with what is known of them.

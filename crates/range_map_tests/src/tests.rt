@@ -1,7 +1,8 @@
+ghost use Rattle.std.specs.Prelude.{◌≡◌, if◌then◌else◌, nat_le, nat_lt};
 ghost use Rattle.figures.specs.declared.names.Table.TheVariants.{Standings};
 
 use figures::Table;
-use range_map::{Entry, MapFault, Payload, RangeMap, Span};
+use range_map::{Entry, MapFault, Payload, RangeMap, Remake, Span, Test};
 use std::test::Fail;
 
 #[derive(Clone, Copy, PartialEq, Eq, Debug)]
@@ -11,6 +12,41 @@ impl Payload for Mark {
     const TABLE: Table = Table::Standings;
 
     ghost TABLE = { Standings };
+}
+
+// Passes the marks from `least` on.
+#[derive(Drop)]
+struct AtLeast {
+    least: u8,
+}
+
+impl Test<Mark> for AtLeast {
+    ghost passing = { λ s mark. nat_le s.least mark.0 };
+
+    fn passes(&self, mark: Mark) -> bool {
+        self.least <= mark.0
+    }
+}
+
+// Every entry that begins past a position gets the mark.
+#[derive(Drop)]
+struct MarkedPast {
+    position: u64,
+    mark: Mark,
+}
+
+impl Remake<Mark> for MarkedPast {
+    ghost becoming = { λ s e. if nat_lt s.position e.first then s.mark else e.payload };
+
+    fn becomes(&self, entry: Entry<Mark>) -> Mark
+        ensures becomes { result ≡ (if nat_lt self.now.position entry.first then self.now.mark else entry.payload) }
+    {
+        if self.position < entry.first {
+            self.mark
+        } else {
+            entry.payload
+        }
+    }
 }
 
 const LAST: u64 = (1 << 62) - 1;
@@ -125,41 +161,32 @@ fn the_first_and_the_last_position(rt: HostRuntime) -> Result<(), Fail> {
 }
 
 #[test]
-fn the_first_position_whose_payload_fails_a_closure(rt: HostRuntime) -> Result<(), Fail> {
+fn the_first_position_whose_payload_fails_a_test(rt: HostRuntime) -> Result<(), Fail> {
     let mut slots = [entry(0, 0, 0); 4];
     let mut map = RangeMap::new(&mut slots);
-    map.lay(span(1, 3), Mark(1))?;
-    map.lay(span(4, 6), Mark(2))?;
-    map.lay(span(8, 9), Mark(1))?;
-    let wanted = Mark(1);
-    assert_eq!(rt; map.first_failing(span(1, 3), |mark| mark == wanted), None);
-    assert_eq!(rt;
-        map.first_failing(span(2, 9), |mark| mark == wanted),
-        Some(4)
-    );
-    assert_eq!(rt;
-        map.first_failing(span(5, 9), |mark| mark == wanted),
-        Some(5)
-    );
-    assert_eq!(rt; map.first_failing(span(2, 9), |_| true), Some(7));
-    assert_eq!(rt; map.first_failing(span(0, 3), |_| true), Some(0));
+    map.lay(span(1, 3), Mark(2))?;
+    map.lay(span(4, 6), Mark(1))?;
+    map.lay(span(8, 9), Mark(2))?;
+    let test = AtLeast { least: 2 };
+    assert_eq!(rt; map.first_failing(span(1, 3), &test), None);
+    assert_eq!(rt; map.first_failing(span(2, 9), &test), Some(4));
+    assert_eq!(rt; map.first_failing(span(5, 9), &test), Some(5));
+    let any = AtLeast { least: 0 };
+    assert_eq!(rt; map.first_failing(span(2, 9), &any), Some(7));
+    assert_eq!(rt; map.first_failing(span(0, 3), &any), Some(0));
     Ok(())
 }
 
 #[test]
-fn a_closure_remakes_every_entry(rt: HostRuntime) -> Result<(), Fail> {
+fn every_entry_gets_what_becomes_of_it(rt: HostRuntime) -> Result<(), Fail> {
     let mut slots = [entry(0, 0, 0); 4];
     let mut map = RangeMap::new(&mut slots);
     map.lay(span(1, 3), Mark(1))?;
     map.lay(span(4, 6), Mark(2))?;
     map.lay(span(8, 9), Mark(1))?;
-    let wanted = Mark(1);
-    map.remake(|e| {
-        if e.payload == wanted && e.first > 1 {
-            Mark(5)
-        } else {
-            e.payload
-        }
+    map.remake(&MarkedPast {
+        position: 4,
+        mark: Mark(5),
     });
     assert_eq!(rt; map.count(), 3);
     assert_eq!(rt; map.entry(0), Some(entry(1, 3, 1)));

@@ -173,7 +173,7 @@ fn book_acceptance<AccountBook: Book<Account>, DeviceBook>(
             second: Change::Up(0),
         },
     );
-    tables.standings.remake_as(&Acceptance {
+    tables.standings.remake(&Acceptance {
         offer: number,
         receiver: offer.to,
     });
@@ -216,7 +216,7 @@ fn book_recall<AccountBook: Book<Account>, DeviceBook>(
             second: Change::Down(count),
         },
     );
-    tables.standings.remake_as(&Recall {
+    tables.standings.remake(&Recall {
         offer: number,
         sender: offer.from,
         today,

@@ -95,7 +95,7 @@ fn expire<AccountBook: Book<Account>, DeviceBook>(
         origins: &tables.origins,
     };
     lower_all(&mut register.accounts, today, tables.standings.entries());
-    tables.standings.remake_as(&Expiry { today });
+    tables.standings.remake(&Expiry { today });
 }
 
 impl ClosedDay {

@@ -33,7 +33,7 @@ pub(crate) fn check_held(
 ) -> Result<(), Fault>
     ensures verdict { fault_in result ≡ not_held_at (unheld account range.first range.last (in_use standings.now)) }
 {
-    match standings.first_failing_test(range, &Holder { account }) {
+    match standings.first_failing(range, &Holder { account }) {
         Some(number) => Err(Fault::NotHeld { number }),
         None => Ok(()),
     }
